@@ -1,0 +1,10 @@
+pub mod Examples
+pub mod Patterns
+pub mod Scanning
+pub mod Parting
+pub mod Cutting
+pub mod Opening
+pub mod Folding
+pub mod Walking
+pub mod Building
+pub mod Accepting

@@ -1,0 +1,11 @@
+pub mod Limits
+pub mod Classes
+pub mod Names
+pub mod Refusals
+pub mod Lines
+pub mod Fields
+pub mod Walks
+pub mod Built
+pub mod Seen
+pub mod Scans
+pub mod Ahead
