@@ -35,6 +35,7 @@ module _ {S : Type 0} (step : S → PlacedField → Result S Objection) where
   taken-same (Err why) p on on′ h = refl
 
   told-all : (n : ℕ) (s : S) (fs : List PlacedField) → n + length fs ≤ most-fields + 1 → told step n s fs whole ≡ all-told step n s fs
+  unfolding told
   told-all n s [] h = refl
   told-all n s (f ∷ fs) h =
       cond-false (ltb most-fields n) (Err (TooManyFields (place n (f .name .at)))) (taken (step s f) (place n (f .name .at)) (λ t. told step (suc n) t fs whole)) (le-ltb most-fields n (omega arith))
@@ -50,6 +51,7 @@ module _ {S : Type 0} (step : S → PlacedField → Result S Objection) where
   taken-on n s u f fs e (Err why) q more h = absurd (err-ok h)
 
   told-taken : (n : ℕ) (s t : S) (fs : List PlacedField) (e : Ending) → n ≤ most-fields + 1 → told step n s fs e ≡ Ok t → Taken step n s fs e t
+  unfolding told
   told-taken n s t [] whole l h = record { no-fault = refl; few = omega arith; all = h }
   told-taken n s t [] (fault at) l h = absurd (err-ok h)
   told-taken n s t (f ∷ fs) e l h =
@@ -60,6 +62,7 @@ module _ {S : Type 0} (step : S → PlacedField → Result S Objection) where
 
   module _ (s : S) (form : Form) (input : List ℕ) where
     walked-accepts : (t : S) → walked step s form input ≡ Ok t → (fs : List PlacedField) × Input form fs input × (all-told step 1 s fs ≡ Ok t)
+    unfolding walked
     walked-accepts t h =
         let c = fields-of form input in
         cond-both (ltb longest-input (length input)) (Err TooLong) (told step 1 s (c .fields) (c .ending)) (λ r. r ≡ Ok t → (fs : List PlacedField) × Input form fs input × (all-told step 1 s fs ≡ Ok t))
@@ -70,6 +73,7 @@ module _ {S : Type 0} (step : S → PlacedField → Result S Objection) where
         h
 
     walked-tells : (fs : List PlacedField) → Input form fs input → walked step s form input ≡ all-told step 1 s fs
+    unfolding walked
     walked-tells fs i =
         let c = fields-of form input in
         cond-false (ltb longest-input (length input)) (Err TooLong) (told step 1 s (c .fields) (c .ending)) (le-ltb longest-input (length input) (i .short))

@@ -66,11 +66,13 @@ name-first [] s h = absurd h
 name-first (b ∷ n) s h = ftext-not-wsp b (and-parts (ftext b) (every ftext n) h .0)
 
 built-first : {form : Form} {at : ℕ} {fs : List PlacedField} {s : List ℕ} → Built form at fs s → indented s ≡ false
+unfolding cut texts
 built-first (over nothing) = refl
 built-first (over rest-behind) = refl
 built-first (field {name = n} {body = b} {s = s} x d) = ap indented (append-assoc n (58 ∷ b) (13 ∷ 10 ∷ s)) ∙ name-first n ((58 ∷ b) ++ 13 ∷ 10 ∷ s) (x .named)
 
 built-cut : {form : Form} {at : ℕ} {fs : List PlacedField} {s : List ℕ} → Built form at fs s → cut form None at (texts s) ≡ record { fields = fs; ending = whole }
+unfolding cut texts
 built-cut (over nothing) = refl
 built-cut {at = at} (over (rest-behind {s = s})) = cut-line Header None at [] s
 built-cut {form} {at} (field {name = n} {body = b} {s = s} {fs = fs} x d) =
@@ -109,6 +111,7 @@ bytes-line t [] p = let z : _≡_ {A = List (List ℕ)} [] (p .first ∷ p .othe
 bytes-line t (u ∷ us) p = refl
 
 bytes-texts : (s : List ℕ) → bytes-of (texts s) ≡ s
+unfolding texts
 bytes-texts [] = refl
 bytes-texts (a ∷ []) = refl
 bytes-texts (a ∷ b ∷ s) =
@@ -182,6 +185,7 @@ over-here : (form : Form) (f : PlacedField) (at : ℕ) → Goes-on form f at [] 
 over-here form f at = record { folds = []; rest = []; others = []; folded = none; bytes-are = refl; built-on = over nothing; fields-are = ap (λ x. x ∷ []) (sym (extended-none f)) }
 
 further : (form : Form) (ts : List (List ℕ)) → Further form ts
+unfolding cut
 further form [] f at = λ e. over-here form f at
 further form ([] ∷ []) f at = λ e. over-here form f at
 further form ((b ∷ t) ∷ []) f at =
@@ -224,6 +228,7 @@ further form (t ∷ u ∷ us) f at =
       })
 
 first : (form : Form) (at : ℕ) (ts : List (List ℕ)) → cut form None at ts .ending ≡ whole → Built form at (cut form None at ts .fields) (bytes-of ts)
+unfolding cut
 first form at [] = λ e. over nothing
 first form at ([] ∷ []) = λ e. over nothing
 first form at ((b ∷ t) ∷ []) =

@@ -53,10 +53,17 @@ module _ (p : ℕ → Bool) where
 
 -- a line is followed by other texts
 pub cut-line : (form : Form) (before : Option PlacedField) (at : ℕ) (t s : List ℕ) → cut form before at (t ∷ texts s) ≡ by-role before at (λ f. cut form (Some f) (at + length t + 2) (texts s)) (role form before at t)
+unfolding cut
 cut-line form before at t s =
     let P : List (List ℕ) → Type 0 = λ ts. cut form before at (t ∷ ts) ≡ by-role before at (λ f. cut form (Some f) (at + length t + 2) ts) (role form before at t) in
     let p = parted s in
     subst P (sym (p .are)) refl
+
+-- no bytes
+pub cut-none : (form : Form) (at : ℕ) (s : List ℕ) → length s < 1 → cut form None at (texts s) ≡ stop whole
+unfolding cut texts
+cut-none form at [] h = refl
+cut-none form at (b ∷ s) h = absurd (omega arith)
 
 role-empty : (form : Form) (at : ℕ) (on : PlacedField → Cut) → by-role None at on (empty-line form) ≡ by-role None at (λ f. stop whole) (empty-line form)
 role-empty Header at on = refl
@@ -64,12 +71,14 @@ role-empty Report at on = refl
 
 -- an empty line first
 pub cut-empty : (form : Form) (at : ℕ) (s : List ℕ) → 2 ≤ length s → getD s 0 0 ≡ 13 → getD s 1 0 ≡ 10 → cut form None at (texts s) ≡ by-role None at (λ f. stop whole) (empty-line form)
+unfolding texts
 cut-empty form at s h cr lf =
     let is : s ≡ 13 ∷ 10 ∷ tail 2 s = two-ahead s h ∙ rw (cr, lf) refl in
     ap (λ t. cut form None at (texts t)) is ∙ cut-line form None at [] (tail 2 s) ∙ role-empty form at (λ f. cut form (Some f) (at + 0 + 2) (texts (tail 2 s)))
 
 -- a first line that opens no field is at fault
 pub first-fault : (form : Form) (at b : ℕ) (t : List ℕ) (ts : List (List ℕ)) → ((u : List ℕ) (us : List (List ℕ)) → ts ≡ u ∷ us → sound (b ∷ t) ≡ true → named at (front ftext (b ∷ t)) (behind ftext (b ∷ t)) ≡ faulty) → cut form None at ((b ∷ t) ∷ ts) ≡ stop (fault at)
+unfolding cut
 first-fault form at b t [] h = cond-both (wsp b) spoils faulty (λ r. by-role None at (λ f. stop whole) r ≡ stop (fault at)) (λ _. refl) (λ _. refl)
 first-fault form at b t (u ∷ us) h =
     let P : Role → Type 0 = λ r. by-role None at (λ f. cut form (Some f) (at + length (b ∷ t) + 2) (u ∷ us)) r ≡ stop (fault at) in
@@ -92,6 +101,7 @@ module _ (f : PlacedField) (at : ℕ) (on : PlacedField → Cut) where
   opening-closes form k (b ∷ t) = cond-both (sound (b ∷ t)) (named k (front ftext (b ∷ t)) (behind ftext (b ∷ t))) faulty Closes (λ _. named-closes k (front ftext (b ∷ t)) (behind ftext (b ∷ t))) (λ _. refl)
 
 texts-close : (form : Form) (f : PlacedField) (at : ℕ) (t : List ℕ) (ts : List (List ℕ)) → indented t ≡ false → cut form (Some f) at (t ∷ ts) ≡ closing (Some f) (cut form None at (t ∷ ts))
+unfolding cut
 texts-close form f at [] [] h = refl
 texts-close form f at (b ∷ t) [] h =
     let P : Role → Type 0 = λ r. by-role (Some f) at (λ g. stop whole) r ≡ closing (Some f) (by-role None at (λ g. stop whole) r) in

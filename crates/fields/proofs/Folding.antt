@@ -98,6 +98,7 @@ module _ (at : ℕ) (s text : List ℕ) where
 
 -- a continuation line at fault
 spoiled : (form : Form) (f : PlacedField) (at w : ℕ) (t : List ℕ) (ts : List (List ℕ)) → wsp w ≡ true → ((u : List ℕ) (us : List (List ℕ)) → ts ≡ u ∷ us → (sound (w ∷ t) && not (blank (w ∷ t))) ≡ false) → cut form (Some f) at ((w ∷ t) ∷ ts) ≡ stop (fault at)
+unfolding cut
 spoiled form f at w t [] h k = ap (by-role (Some f) at (λ g. stop whole)) (cond-true (wsp w) spoils faulty h)
 spoiled form f at w t (u ∷ us) h k =
     let on : PlacedField → Cut = λ g. cut form (Some g) (at + length (w ∷ t) + 2) (u ∷ us) in

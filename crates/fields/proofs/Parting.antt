@@ -53,6 +53,7 @@ onto-parted : (a : ℕ) (ts : List (List ℕ)) → Parted ts → Parted (onto a 
 onto-parted a ts p = record { first = a ∷ p .first; others = p .others; are = ap (onto a) (p .are) }
 
 pub parted : (s : List ℕ) → Parted (texts s)
+unfolding texts
 parted [] = record { first = []; others = []; are = refl }
 parted (a ∷ []) = record { first = a ∷ []; others = []; are = refl }
 parted (a ∷ b ∷ s) =
@@ -62,10 +63,12 @@ parted (a ∷ b ∷ s) =
 
 -- a byte that begins no CRLF belongs to the first text
 pub texts-on : (b : ℕ) (s : List ℕ) → at-crlf (b ∷ s) ≡ false → texts (b ∷ s) ≡ onto b (texts s)
+unfolding texts
 texts-on b [] e = refl
 texts-on b (a ∷ s) e = cond-false (eqb b 13 && eqb a 10) ([] ∷ texts s) (onto b (texts (a ∷ s))) e
 
 pub texts-front : (p s t : List ℕ) (ts : List (List ℕ)) → every plain p ≡ true → texts s ≡ t ∷ ts → texts (p ++ s) ≡ (p ++ t) ∷ ts
+unfolding texts
 texts-front [] s t ts h e = e
 texts-front (a ∷ p) s t ts h e =
     let x = and-parts (plain a) (every plain p) h in
@@ -73,10 +76,12 @@ texts-front (a ∷ p) s t ts h e =
 
 -- a line: its text comes first
 pub texts-line : (p s : List ℕ) → every plain p ≡ true → texts (p ++ 13 ∷ 10 ∷ s) ≡ p ∷ texts s
+unfolding texts
 texts-line p s h = texts-front p (13 ∷ 10 ∷ s) [] (texts s) h refl ∙ ap (λ t. t ∷ texts s) (append-nil p)
 
 -- the first text is empty, or begins with the first byte
 pub first-starts : (g : ℕ → Bool) (s t : List ℕ) (ts : List (List ℕ)) → texts s ≡ t ∷ ts → starts g s ≡ false → starts g t ≡ false
+unfolding texts
 first-starts g [] t ts e h = let same : [] ≡ t = cc in ap (starts g) (sym same)
 first-starts g (b ∷ []) t ts e h = let same : b ∷ [] ≡ t = cc in ap (starts g) (sym same) ∙ h
 first-starts g (b ∷ c ∷ s) t ts e h =
@@ -141,6 +146,7 @@ shifted b s t u us e h =
 
 -- where `line-end` finds none, the first text is no line's, or is not plain, or is too long
 pub no-line : (room : ℕ) (s t u : List ℕ) (us : List (List ℕ)) → line-end room s ≡ None → texts s ≡ t ∷ u ∷ us → (every plain t && leb (length t) room) ≡ false
+unfolding texts
 no-line room [] t u us q e = let z : _≡_ {A = ℕ} 0 1 = cc in absurd (omega arith)
 no-line zero (b ∷ s) t u us q e =
     let Q : Type 0 = (every plain t && leb (length t) zero) ≡ false in

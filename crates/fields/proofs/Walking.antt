@@ -26,9 +26,11 @@ told-cut step n s c = told step n s (c .fields) (c .ending)
 
 module _ {S : Type 0} (step : S → PlacedField → Result S Objection) (n : ℕ) (s : S) (f : PlacedField) (c : Cut) where
   pub too-many : ltb most-fields n ≡ true → told-cut step n s (closing (Some f) c) ≡ Err (TooManyFields (place n (f .name .at)))
+  unfolding told
   too-many h = cond-true (ltb most-fields n) (Err (TooManyFields (place n (f .name .at)))) (taken (step s f) (place n (f .name .at)) (λ t. told step (suc n) t (c .fields) (c .ending))) h
 
   told-on : ltb most-fields n ≡ false → told-cut step n s (closing (Some f) c) ≡ taken (step s f) (place n (f .name .at)) (λ t. told step (suc n) t (c .fields) (c .ending))
+  unfolding told
   told-on h = cond-false (ltb most-fields n) (Err (TooManyFields (place n (f .name .at)))) (taken (step s f) (place n (f .name .at)) (λ t. told step (suc n) t (c .fields) (c .ending))) h
 
   pub objected : ltb most-fields n ≡ false → (why : Objection) → step s f ≡ Err why → told-cut step n s (closing (Some f) c) ≡ Err (Objected why (place n (f .name .at)))
@@ -51,18 +53,22 @@ module _ {S : Type 0} (step : S → PlacedField → Result S Objection) (s : S) 
   comes-first = record { same = refl; place-is = omega arith; few = omega arith }
 
   pub too-long : longest-input < length input → Err TooLong ≡ walked step s form input
+  unfolding walked
   too-long h = sym (cond-true (ltb longest-input (length input)) (Err TooLong) (told-cut step 1 s (fields-of form input)) (lt-ltb longest-input (length input) h))
 
   module _ (n : ℕ) (t : S) (at : ℕ) (left : List ℕ) (c : Comes step s form input n t at left) where
     -- what is found first decides
     by-first : length input ≤ longest-input → (first : Cut) → cut form None at (texts left) ≡ first → told-cut step n t first ≡ walked step s form input
+    unfolding walked
     by-first short first e =
         ap (told-cut step n t) (sym e) ∙ c .same ∙ sym (cond-false (ltb longest-input (length input)) (Err TooLong) (told-cut step 1 s (fields-of form input)) (le-ltb longest-input (length input) short))
 
     pub ends-whole : length input ≤ longest-input → cut form None at (texts left) ≡ stop whole → Ok t ≡ walked step s form input
+    unfolding told
     ends-whole short e = by-first short (stop whole) e
 
     pub ends-at-fault : length input ≤ longest-input → (byte : ℕ) → cut form None at (texts left) ≡ stop (fault byte) → Err (BadLine (place n byte)) ≡ walked step s form input
+    unfolding told
     ends-at-fault short byte e = by-first short (stop (fault byte)) e
 
     module _ (f : PlacedField) (next : Cut) (e : cut form None at (texts left) ≡ closing (Some f) next) where

@@ -95,7 +95,7 @@ by-role before at on spoils = stop (fault at)
 by-role before at on faulty = closing before (stop (fault at))
 
 -- the fields of these texts, of which the first stands at `at`, behind the field `before`
-abbrev pub cut : Form → Option PlacedField → ℕ → List (List ℕ) → Cut
+unfoldable pub cut : Form → Option PlacedField → ℕ → List (List ℕ) → Cut
 cut form before at [] = closing before (stop whole)
 cut form before at (t ∷ []) = by-role before at (λ f. stop whole) (last-role t)
 cut form before at (t ∷ u ∷ ts) = by-role before at (λ f. cut form (Some f) (at + length t + 2) (u ∷ ts)) (role form before at t)

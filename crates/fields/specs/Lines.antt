@@ -13,7 +13,7 @@ onto a [] = []
 onto a (t ∷ ts) = (a ∷ t) ∷ ts
 
 -- s parted at each CRLF: the texts of its lines, and last what stands behind the last CRLF
-abbrev pub texts : List ℕ → List (List ℕ)
+unfoldable pub texts : List ℕ → List (List ℕ)
 texts [] = [] ∷ []
 texts (a ∷ []) = (a ∷ []) ∷ []
 texts (a ∷ b ∷ s) = let ended = [] ∷ texts s in let more = onto a (texts (b ∷ s)) in cond (eqb a 13 && eqb b 10) ended more

@@ -33,7 +33,7 @@ taken (Ok s) p on = on s
 taken (Err why) p on = Err (Objected why p)
 
 -- the fields fs, of which the first is field n, told to `step` from the state s on
-abbrev pub told : {S : Type 0} → (S → PlacedField → Result S Objection) → ℕ → S → List PlacedField → Ending → Result S Refusal
+unfoldable pub told : {S : Type 0} → (S → PlacedField → Result S Objection) → ℕ → S → List PlacedField → Ending → Result S Refusal
 told step n s [] whole = Ok s
 told step n s [] (fault at) = Err (BadLine (place n at))
 told step n s (f ∷ fs) e =
@@ -41,7 +41,7 @@ told step n s (f ∷ fs) e =
     let more = taken (step s f) at (λ t. told step (suc n) t fs e) in
     cond (ltb most-fields n) (Err (TooManyFields at)) more
 
-abbrev pub walked : {S : Type 0} → (S → PlacedField → Result S Objection) → S → Form → List ℕ → Result S Refusal
+unfoldable pub walked : {S : Type 0} → (S → PlacedField → Result S Objection) → S → Form → List ℕ → Result S Refusal
 walked step s form input =
     let c = fields-of form input in
     let more = told step 1 s (c .fields) (c .ending) in

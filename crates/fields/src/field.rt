@@ -27,7 +27,7 @@ pub enum Form {
 
 // What stands first in what is left of an input.
 #[derive(Clone, Copy)]
-pub enum Next<'a> {
+pub(crate) enum Next<'a> {
     // The end of the bytes, or the empty line of a header.
     End,
     // A line at fault, by its first byte.

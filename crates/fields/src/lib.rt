@@ -2,6 +2,6 @@
 pub mod bytes;
 pub mod part;
 pub mod refusal;
-pub mod line;
+mod line;
 pub mod field;
 pub mod walk;

@@ -7,10 +7,10 @@ use crate::bytes::WspClass;
 use crate::bytes::skip;
 
 // The most bytes that a line may have before its CRLF.
-pub const LONGEST_LINE: usize = 998;
+pub(crate) const LONGEST_LINE: usize = 998;
 
 // The bytes from the CRLF on that ends the line, where at most `room` stand before it, none of them NUL, CR or LF.
-pub fn line_end<'a>(s: &'a [u8], room: usize) -> Option<&'a [u8]>
+pub(crate) fn line_end<'a>(s: &'a [u8], room: usize) -> Option<&'a [u8]>
     ensures { λ r. ⌜ mapped now r ≡ line-end room (now (s .entry)) ⌝ }
 {
     let mut rest = s;
@@ -32,7 +32,7 @@ pub fn line_end<'a>(s: &'a [u8], room: usize) -> Option<&'a [u8]>
 }
 
 // The bytes themselves, where they begin with CRLF.
-pub fn crlf<'a>(s: &'a [u8]) -> Option<&'a [u8]>
+pub(crate) fn crlf<'a>(s: &'a [u8]) -> Option<&'a [u8]>
     ensures { λ r. ⌜ mapped now r ≡ crlf-here (now (s .entry)) ⌝ }
 {
     match s {
@@ -42,7 +42,7 @@ pub fn crlf<'a>(s: &'a [u8]) -> Option<&'a [u8]>
 }
 
 // What stands behind a colon.
-pub fn past_colon<'a>(s: &'a [u8]) -> Option<&'a [u8]>
+pub(crate) fn past_colon<'a>(s: &'a [u8]) -> Option<&'a [u8]>
     ensures { λ r. ⌜ mapped now r ≡ past-colon (now (s .entry)) ⌝ }
 {
     match s {
@@ -52,7 +52,7 @@ pub fn past_colon<'a>(s: &'a [u8]) -> Option<&'a [u8]>
 }
 
 // What stands behind a CRLF and the white space that makes it a fold.
-pub fn fold_start<'a>(s: &'a [u8]) -> Option<&'a [u8]>
+pub(crate) fn fold_start<'a>(s: &'a [u8]) -> Option<&'a [u8]>
     ensures { λ r. ⌜ mapped now r ≡ fold-start (now (s .entry)) ⌝ }
 {
     match s {
@@ -62,7 +62,7 @@ pub fn fold_start<'a>(s: &'a [u8]) -> Option<&'a [u8]>
 }
 
 // As `line_end`, for a continuation line from its second byte on. It has more than white space.
-pub fn fold_end<'a>(s: &'a [u8]) -> Option<&'a [u8]>
+pub(crate) fn fold_end<'a>(s: &'a [u8]) -> Option<&'a [u8]>
     ensures { λ r. ⌜ mapped now r ≡ fold-end (now (s .entry)) ⌝ }
 {
     match crlf(skip::<WspClass>(s)) {

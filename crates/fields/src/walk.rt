@@ -35,15 +35,14 @@ pub trait Collector<'a> {
         ensures { λ r. ⌜ became r (state (now (self .exit))) ≡ step (state (now (self .entry))) (placed-field (field .entry)) ⌝ };
 }
 
-// Tells each field of the input to the collector, in order, and gives the collector back; or the first refusal.
-pub fn walk<'a, C: Collector<'a> + Drop>(first: C, form: Form, input: &'a [u8]) -> Result<C, Refusal>
-    ensures walks { λ r. ⌜ meaning state r ≡ walked step (state first) form (now (input .entry)) ⌝ }
-    ensures exactly { λ r. ⌜ Walk-exactly step (state first) form (now (input .entry)) (meaning state r) ⌝ }
+// Tells each field of the input to the collector, in order, and gives the collector back, or the first refusal.
+pub fn walk<'a, C: Collector<'a> + Drop>(form: Form, input: &'a [u8], mut collector: C) -> Result<C, Refusal>
+    ensures walks { λ r. ⌜ meaning state r ≡ walked step (state collector) form (now (input .entry)) ⌝ }
+    ensures exactly { λ r. ⌜ Walk-exactly step (state collector) form (now (input .entry)) (meaning state r) ⌝ }
 {
     if input.len() > LONGEST_INPUT {
         return Err(Refusal::TooLong);
     }
-    let mut collector = first;
     let mut rest = Part { at: 0, text: input };
     let mut field = 1;
     loop {
