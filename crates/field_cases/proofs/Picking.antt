@@ -1,7 +1,7 @@
 -- A name that is not the known one.
 use mathlib.Core.Path.{_≡_, refl, sym}
 use mathlib.Core.Logic.{⊎-elim}
-use mathlib.Core.Bool.{Bool, false}
+use mathlib.Core.Bool.{false}
 use mathlib.Core.List.{List, map}
 use lib.Chars.{codes}
 use Prim.Native.Nat.{ℕ}

@@ -49,7 +49,10 @@ fn accepted(rt: &LibcRuntime, case: &str, picky: Picky) -> io::Result<()> {
             let name = last.name.at;
             let body = last.body.at;
             let size = last.body.text.len();
-            println!(rt, "{case}   last field at {name}, its body of {size} at {body}")
+            println!(
+                rt,
+                "{case}   last field at {name}, its body of {size} at {body}"
+            )
         }
         None => println!(rt, "{case}   no field"),
     }

@@ -1,5 +1,4 @@
 // A collector that keeps the last field, and objects to one that is called X-Bad.
-ghost use mathlib.Core.Path.{_≡_};
 ghost use Rattle.std.specs.declared.option.Option.{Option};
 ghost use Rattle.fields.specs.Fields.{PlacedField};
 ghost use Rattle.field_cases.specs.Picks.{last-of, picks};

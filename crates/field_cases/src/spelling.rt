@@ -58,7 +58,9 @@ impl Speller {
             self.mode = Mode::Text;
             self.group = self.bytes.len();
         } else {
-            self.count = self.count.saturating_mul(10).saturating_add(usize::from(b.wrapping_sub(b'0')));
+            self.count = self.count
+                .saturating_mul(10)
+                .saturating_add(usize::from(b.wrapping_sub(b'0')));
         }
     }
 
@@ -93,10 +95,20 @@ fn escaped(b: u8) -> u8 {
 }
 
 pub fn spelled(heap: Global, text: &str) -> Result<Vec<u8>, AllocError> {
-    let mut speller = Speller { mode: Mode::Text, bytes: Vec::new(heap), count: 0, group: 0 };
+    let mut speller = Speller {
+        mode: Mode::Text,
+        bytes: Vec::new(heap),
+        count: 0,
+        group: 0,
+    };
     for b in text.bytes() {
         speller.take(b)?;
     }
-    let Speller { mode: _, bytes, count: _, group: _ } = speller;
+    let Speller {
+        mode: _,
+        bytes,
+        count: _,
+        group: _,
+    } = speller;
     Ok(bytes)
 }

@@ -1,8 +1,7 @@
 -- A walk accepts inputs and nothing else.
-use mathlib.Core.Path.{_≡_, refl, sym, ap, subst, _∙_}
-use mathlib.Core.Bool.{Bool, true, false, cond}
+use mathlib.Core.Path.{_≡_, refl, sym, ap, _∙_}
 use mathlib.Core.List.{List, [], _∷_}
-use Prim.Native.Nat.{ℕ, suc, _+_, _≤_, _<_}
+use Prim.Native.Nat.{ℕ, suc, _+_, _≤_}
 use native.Mathlib.Omega.{arith}
 use lib.Dec.{ltb}
 use lib.ListN.{length}
@@ -17,7 +16,7 @@ use Rattle.fields.specs.declared.refusal.Refusal.the-variants.{TooLong, TooMan
 use Rattle.fields.specs.Limits.{longest-input, most-fields}
 use Rattle.fields.specs.Fields.{PlacedField, Ending, whole, fault, Cut, fields-of}
 use Rattle.fields.specs.Walks.{place, taken, told, walked}
-use Rattle.fields.specs.Built.{Built, all-told, Input, Walk-exactly}
+use Rattle.fields.specs.Built.{all-told, Input, Walk-exactly}
 use Rattle.fields.proofs.Building.{cut-exactly}
 
 err-ok : {A E : Type 0} {a : A} {e : E} → _≡_ {A = Result A E} (Err e) (Ok a) → ⊥
@@ -43,8 +42,8 @@ module _ {S : Type 0} (step : S → PlacedField → Result S Objection) where
 
   -- one field taken, and then the others
   taken-on : (n : ℕ) (s u : S) (f : PlacedField) (fs : List PlacedField) (e : Ending) (r : Result S Objection) → step s f ≡ r
-    → ((t : S) → told step (suc n) t fs e ≡ Ok u → Taken step (suc n) t fs e u)
-    → taken r (place n (f .name .at)) (λ t. told step (suc n) t fs e) ≡ Ok u → Taken step n s (f ∷ fs) e u
+      → ((t : S) → told step (suc n) t fs e ≡ Ok u → Taken step (suc n) t fs e u)
+      → taken r (place n (f .name .at)) (λ t. told step (suc n) t fs e) ≡ Ok u → Taken step n s (f ∷ fs) e u
   taken-on n s u f fs e (Ok t) q more h =
       let x = more t h in
       record { no-fault = x .no-fault; few = omega (arith, x .few); all = ap (λ r. taken r (place n (f .name .at)) (λ v. all-told step (suc n) v fs)) q ∙ x .all }
@@ -68,8 +67,8 @@ module _ {S : Type 0} (step : S → PlacedField → Result S Objection) where
         cond-both (ltb longest-input (length input)) (Err TooLong) (told step 1 s (c .fields) (c .ending)) (λ r. r ≡ Ok t → (fs : List PlacedField) × Input form fs input × (all-told step 1 s fs ≡ Ok t))
         (λ _ q. absurd (err-ok q))
         (λ k q.
-          let x = told-taken 1 s t (c .fields) (c .ending) (omega arith) q in
-          (c .fields, record { is-built = cut-exactly form input .accepted (x .no-fault); few = omega (arith, x .few); short = ltb-false longest-input (length input) k }, x .all))
+        let x = told-taken 1 s t (c .fields) (c .ending) (omega arith) q in
+        (c .fields, record { is-built = cut-exactly form input .accepted (x .no-fault); few = omega (arith, x .few); short = ltb-false longest-input (length input) k }, x .all))
         h
 
     walked-tells : (fs : List PlacedField) → Input form fs input → walked step s form input ≡ all-told step 1 s fs

@@ -1,24 +1,23 @@
 -- What is cut with no fault is built of its fields, and the other way round.
 use mathlib.Core.Path.{_≡_, refl, sym, ap, subst, _∙_}
-use mathlib.Core.Bool.{Bool, true, false, not, cond, _&&_}
+use mathlib.Core.Bool.{true, false, not, _&&_}
 use mathlib.Core.List.{List, [], _∷_, _++_}
-use Prim.Native.Nat.{ℕ, suc, _+_, _≤_, _<_}
+use Prim.Native.Nat.{ℕ, suc, _+_, _≤_}
 use native.Mathlib.Omega.{arith}
 use lib.Dec.{eqb}
 use lib.ListN.{length, length-append}
-use Rattle.std.specs.declared.option.Option.{Option}
 use Rattle.std.specs.declared.option.Option.the-variants.{Some, None}
-use Rattle.std.proofs.shelf.Tests.{cond-false, cond-both, and-parts, eqb-true, not-true}
+use Rattle.std.proofs.shelf.Tests.{cond-both, and-parts, eqb-true, not-true}
 use Rattle.std.proofs.shelf.Lists.{append-assoc, append-nil}
 use Rattle.fields.specs.declared.field.Form.{Form}
 use Rattle.fields.specs.declared.field.Form.the-variants.{Header, Report}
-use Rattle.fields.specs.Classes.{wsp, ftext, plain, every, starts, front, behind}
+use Rattle.fields.specs.Classes.{wsp, ftext, every, front, behind}
 use Rattle.fields.specs.Lines.{onto, texts, sound, indented, blank}
-use Rattle.fields.specs.Fields.{PlacedField, field-at, continued, Ending, whole, fault, Cut, stop, Role, opens, continues, ends, spoils, faulty, named, empty-line, opening, continuing, role, last-role, closing, by-role, cut, fields-of}
-use Rattle.fields.specs.Built.{Name, Continuation, Folds, none, fold, Field-text, Rest, nothing, empty-line as rest-behind, Built, over, field, Cut-exactly}
+use Rattle.fields.specs.Fields.{PlacedField, field-at, continued, whole, fault, Cut, stop, Role, opens, continues, spoils, faulty, named, opening, continuing, closing, by-role, cut}
+use Rattle.fields.specs.Built.{Name, Folds, none, fold, Field-text, nothing, empty-line as rest-behind, Built, over, field, Cut-exactly}
 use Rattle.fields.proofs.Parting.{Parted, parted, texts-line, ftext-not-wsp}
 use Rattle.fields.proofs.Cutting.{parts-of, front-every, cut-line, opening-closes, cut-closes}
-use Rattle.fields.proofs.Opening.{role-opens, role-continues, sound-parts, opened-by}
+use Rattle.fields.proofs.Opening.{role-continues, sound-parts, opened-by}
 
 -- the same field with its body prolonged
 abbrev extended : PlacedField → List ℕ → PlacedField
@@ -82,9 +81,9 @@ built-cut {form} {at} (field {name = n} {body = b} {s = s} {fs = fs} x d) =
     let np = name-parts n (x .named) in
     let here = at + length n + 1 + length first + 2 in
     let is : (n ++ 58 ∷ b) ++ 13 ∷ 10 ∷ s ≡ (n ++ 58 ∷ first) ++ 13 ∷ 10 ∷ u .0 =
-      append-assoc n (58 ∷ b) (13 ∷ 10 ∷ s)
-      ∙ ap (λ y. n ++ 58 ∷ y) (ap (λ y. y ++ 13 ∷ 10 ∷ s) (x .body-is) ∙ append-assoc first fo (13 ∷ 10 ∷ s) ∙ ap (λ y. first ++ y) (u .1))
-      ∙ sym (append-assoc n (58 ∷ first) (13 ∷ 10 ∷ u .0)) in
+    append-assoc n (58 ∷ b) (13 ∷ 10 ∷ s)
+    ∙ ap (λ y. n ++ 58 ∷ y) (ap (λ y. y ++ 13 ∷ 10 ∷ s) (x .body-is) ∙ append-assoc first fo (13 ∷ 10 ∷ s) ∙ ap (λ y. first ++ y) (u .1))
+    ∙ sym (append-assoc n (58 ∷ first) (13 ∷ 10 ∷ u .0)) in
     let place : here + length fo ≡ at + length n + 1 + length b + 2 = let y : length b ≡ length first + length fo = ap length (x .body-is) ∙ length-append first fo in omega arith in
     opened-by form at n first ((n ++ 58 ∷ b) ++ 13 ∷ 10 ∷ s) (u .0) (np .0) (np .1) (x .first-line) is
     ∙ folds-cut form (field-at at n first) here s (u .0) (x .folded) (u .1)
@@ -117,11 +116,11 @@ bytes-texts (a ∷ []) = refl
 bytes-texts (a ∷ b ∷ s) =
     cond-both (eqb a 13 && eqb b 10) ([] ∷ texts s) (onto a (texts (b ∷ s))) (λ ts. bytes-of ts ≡ a ∷ b ∷ s)
     (λ h.
-      let x = and-parts (eqb a 13) (eqb b 10) h in
-      let cr : a ≡ 13 = eqb-true a 13 (x .0) in
-      let lf : b ≡ 10 = eqb-true b 10 (x .1) in
-      let e : bytes-of ([] ∷ texts s) ≡ 13 ∷ 10 ∷ s = bytes-line [] (texts s) (parted s) ∙ ap (λ y. 13 ∷ 10 ∷ y) (bytes-texts s) in
-      cc)
+    let x = and-parts (eqb a 13) (eqb b 10) h in
+    let cr : a ≡ 13 = eqb-true a 13 (x .0) in
+    let lf : b ≡ 10 = eqb-true b 10 (x .1) in
+    let e : bytes-of ([] ∷ texts s) ≡ 13 ∷ 10 ∷ s = bytes-line [] (texts s) (parted s) ∙ ap (λ y. 13 ∷ 10 ∷ y) (bytes-texts s) in
+    cc)
     (λ _. bytes-onto a (texts (b ∷ s)) (parted (b ∷ s)) ∙ ap (λ y. a ∷ y) (bytes-texts (b ∷ s)))
 
 fault-whole : {at : ℕ} → fault at ≡ whole → ⊥
@@ -158,18 +157,18 @@ module _ (form : Form) (at : ℕ) (t : List ℕ) (ts : List (List ℕ)) (more : 
   named-shown (b ∷ n) (c ∷ body) is h k =
       cond-both (eqb c 58) (opens (field-at at (b ∷ n) body)) faulty Shown
       (λ colon e.
-        let name = b ∷ n in
-        let line-is : t ≡ name ++ 58 ∷ body = is ∙ ap (λ x. name ++ x ∷ body) (eqb-true c 58 colon) in
-        let g = more (field-at at name body) (at + length t + 2) e in
-        let fo = g .folds in
-        let place : at + length t + 2 + length fo ≡ at + length name + 1 + length (body ++ fo) + 2 =
-          let x : length t ≡ length name + suc (length body) = ap length line-is ∙ length-append name (58 ∷ body) in
-          let y : length (body ++ fo) ≡ length body + length fo = length-append body fo in
-          omega arith in
-        let bytes : (name ++ 58 ∷ body ++ fo) ++ 13 ∷ 10 ∷ g .rest ≡ t ++ 13 ∷ 10 ∷ bytes-of ts =
-          append-assoc (name ++ 58 ∷ body) fo (13 ∷ 10 ∷ g .rest) ∙ ap (λ x. x ++ (fo ++ 13 ∷ 10 ∷ g .rest)) (sym line-is) ∙ ap (λ x. t ++ x) (sym (g .bytes-are)) in
-        let text : Field-text name (body ++ fo) = record { named = h; first = body; folds = fo; body-is = refl; first-line = ap sound (sym line-is) ∙ k; folded = g .folded } in
-        built-at refl (sym (g .fields-are)) (ap (λ x. x ++ 13 ∷ 10 ∷ g .rest) (sym (append-assoc name (58 ∷ body) fo)) ∙ bytes) (field text (built-at place refl refl (g .built-on))))
+      let name = b ∷ n in
+      let line-is : t ≡ name ++ 58 ∷ body = is ∙ ap (λ x. name ++ x ∷ body) (eqb-true c 58 colon) in
+      let g = more (field-at at name body) (at + length t + 2) e in
+      let fo = g .folds in
+      let place : at + length t + 2 + length fo ≡ at + length name + 1 + length (body ++ fo) + 2 =
+      let x : length t ≡ length name + suc (length body) = ap length line-is ∙ length-append name (58 ∷ body) in
+      let y : length (body ++ fo) ≡ length body + length fo = length-append body fo in
+      omega arith in
+      let bytes : (name ++ 58 ∷ body ++ fo) ++ 13 ∷ 10 ∷ g .rest ≡ t ++ 13 ∷ 10 ∷ bytes-of ts =
+      append-assoc (name ++ 58 ∷ body) fo (13 ∷ 10 ∷ g .rest) ∙ ap (λ x. x ++ (fo ++ 13 ∷ 10 ∷ g .rest)) (sym line-is) ∙ ap (λ x. t ++ x) (sym (g .bytes-are)) in
+      let text : Field-text name (body ++ fo) = record { named = h; first = body; folds = fo; body-is = refl; first-line = ap sound (sym line-is) ∙ k; folded = g .folded } in
+      built-at refl (sym (g .fields-are)) (ap (λ x. x ++ 13 ∷ 10 ∷ g .rest) (sym (append-assoc name (58 ∷ body) fo)) ∙ bytes) (field text (built-at place refl refl (g .built-on))))
       (λ _ e. absurd (fault-whole e))
 
 opening-shown : (form : Form) (at : ℕ) (t : List ℕ) (ts : List (List ℕ)) (more : Further form ts) → Shown form at t ts more (opening form at t)
@@ -197,35 +196,35 @@ further form (t ∷ u ∷ us) f at =
     let P : Role → Type 0 = λ r. by-role (Some f) at go r .ending ≡ whole → Goes-on form f at (t ++ 13 ∷ 10 ∷ bytes-of ts) (by-role (Some f) at go r) in
     cond-both (indented t) (continuing (Some f) t) (opening form at t) P
     (λ i.
-      cond-both (sound t && not (blank t)) (continues (continued f t)) spoils P
-      (λ k e.
-        let x = and-parts (sound t) (not (blank t)) k in
-        let g = more (continued f t) (at + length t + 2) e in
-        let fo = g .folds in
-        let place : at + length t + 2 + length fo ≡ at + length (13 ∷ 10 ∷ t ++ fo) = let y : length (t ++ fo) ≡ length t + length fo = length-append t fo in omega arith in
-        record {
-          folds = 13 ∷ 10 ∷ t ++ fo;
-          rest = g .rest;
-          others = g .others;
-          folded = fold (record { is-sound = x .0; is-indented = i; not-blank = not-true (blank t) (x .1) }) (g .folded);
-          bytes-are = ap (λ y. 13 ∷ 10 ∷ t ++ y) (g .bytes-are) ∙ ap (λ y. 13 ∷ 10 ∷ y) (sym (append-assoc t fo (13 ∷ 10 ∷ g .rest)));
-          built-on = built-at place refl refl (g .built-on);
-          fields-are = g .fields-are ∙ ap (λ y. y ∷ g .others) (extended-more f t fo);
-        })
-      (λ _ e. absurd (fault-whole e)))
+    cond-both (sound t && not (blank t)) (continues (continued f t)) spoils P
+    (λ k e.
+    let x = and-parts (sound t) (not (blank t)) k in
+    let g = more (continued f t) (at + length t + 2) e in
+    let fo = g .folds in
+    let place : at + length t + 2 + length fo ≡ at + length (13 ∷ 10 ∷ t ++ fo) = let y : length (t ++ fo) ≡ length t + length fo = length-append t fo in omega arith in
+    record {
+      folds = 13 ∷ 10 ∷ t ++ fo;
+      rest = g .rest;
+      others = g .others;
+      folded = fold (record { is-sound = x .0; is-indented = i; not-blank = not-true (blank t) (x .1) }) (g .folded);
+      bytes-are = ap (λ y. 13 ∷ 10 ∷ t ++ y) (g .bytes-are) ∙ ap (λ y. 13 ∷ 10 ∷ y) (sym (append-assoc t fo (13 ∷ 10 ∷ g .rest)));
+      built-on = built-at place refl refl (g .built-on);
+      fields-are = g .fields-are ∙ ap (λ y. y ∷ g .others) (extended-more f t fo);
+    })
+    (λ _ e. absurd (fault-whole e)))
     (λ _ e.
-      let c : Cut = by-role None at go (opening form at t) in
-      let same : by-role (Some f) at go (opening form at t) ≡ closing (Some f) c = opening-closes f at go form at t in
-      let here : at ≡ at + 0 = omega arith in
-      record {
-        folds = [];
-        rest = t ++ 13 ∷ 10 ∷ bytes-of ts;
-        others = c .fields;
-        folded = none;
-        bytes-are = refl;
-        built-on = built-at here refl refl (opening-shown form at t ts more (sym (ap (λ x. x .ending) same) ∙ e));
-        fields-are = ap (λ x. x .fields) same ∙ ap (λ x. x ∷ c .fields) (sym (extended-none f));
-      })
+    let c : Cut = by-role None at go (opening form at t) in
+    let same : by-role (Some f) at go (opening form at t) ≡ closing (Some f) c = opening-closes f at go form at t in
+    let here : at ≡ at + 0 = omega arith in
+    record {
+      folds = [];
+      rest = t ++ 13 ∷ 10 ∷ bytes-of ts;
+      others = c .fields;
+      folded = none;
+      bytes-are = refl;
+      built-on = built-at here refl refl (opening-shown form at t ts more (sym (ap (λ x. x .ending) same) ∙ e));
+      fields-are = ap (λ x. x .fields) same ∙ ap (λ x. x ∷ c .fields) (sym (extended-none f));
+    })
 
 first : (form : Form) (at : ℕ) (ts : List (List ℕ)) → cut form None at ts .ending ≡ whole → Built form at (cut form None at ts .fields) (bytes-of ts)
 unfolding cut

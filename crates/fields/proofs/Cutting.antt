@@ -1,24 +1,21 @@
 -- How the cut goes on, line by line.
 use mathlib.Core.Path.{_≡_, refl, sym, ap, subst, _∙_}
-use mathlib.Core.Bool.{Bool, true, false, not, cond, _&&_, _||_}
+use mathlib.Core.Bool.{Bool, true, false, cond}
 use mathlib.Core.List.{List, [], _∷_, _++_}
-use Prim.Native.Nat.{ℕ, zero, suc, _+_, _-_, _≤_, _<_}
+use Prim.Native.Nat.{ℕ, _+_, _≤_, _<_}
 use native.Mathlib.Omega.{arith}
-use lib.Dec.{eqb, leb}
+use lib.Dec.{eqb}
 use lib.ListN.{length, getD}
 use Rattle.std.specs.declared.option.Option.{Option}
 use Rattle.std.specs.declared.option.Option.the-variants.{Some, None}
-use Rattle.std.proofs.shelf.Tests.{cond-true, cond-false, cond-both, and-parts, and-from, both-ways, eqb-true, ne-eqb, leb-true, le-leb, not-from-false}
-use Rattle.std.proofs.shelf.Lists.{append-assoc}
+use Rattle.std.proofs.shelf.Tests.{cond-true, cond-false, cond-both, and-parts, and-from}
 use Rattle.fields.specs.declared.field.Form.{Form}
 use Rattle.fields.specs.declared.field.Form.the-variants.{Header, Report}
-use Rattle.fields.specs.Limits.{longest-line}
-use Rattle.fields.specs.Classes.{wsp, ftext, plain, every, starts, front, behind}
-use Rattle.fields.specs.Lines.{onto, texts, sound, indented, blank}
-use Rattle.fields.specs.Fields.{PlacedField, field-at, continued, Cut, fault, whole, stop, Role, opens, continues, ends, spoils, faulty, named, empty-line, opening, continuing, role, last-role, closing, by-role, cut}
-use Rattle.fields.specs.Scans.{at-crlf, line-end, past-colon, fold-start, fold-end, no-field}
+use Rattle.fields.specs.Classes.{wsp, ftext, every, starts, front, behind}
+use Rattle.fields.specs.Lines.{texts, sound, indented}
+use Rattle.fields.specs.Fields.{PlacedField, field-at, Cut, fault, whole, stop, Role, opens, spoils, faulty, named, empty-line, opening, continuing, role, closing, by-role, cut}
 use Rattle.fields.proofs.Patterns.{tail, two-ahead}
-use Rattle.fields.proofs.Parting.{Parted, parted, texts-on, texts-front, texts-line, first-starts, every-sub, ftext-plain, wsp-plain, none-some, Line-at, line-at, no-line}
+use Rattle.fields.proofs.Parting.{parted, first-starts}
 
 parts-by : (x : Bool) (b : ℕ) (u v s : List ℕ) → s ≡ u ++ v → b ∷ s ≡ cond x (b ∷ u) [] ++ cond x v (b ∷ s)
 parts-by true b u v s e = ap (λ t. b ∷ t) e
@@ -70,11 +67,14 @@ role-empty Header at on = refl
 role-empty Report at on = refl
 
 -- an empty line first
-pub cut-empty : (form : Form) (at : ℕ) (s : List ℕ) → 2 ≤ length s → getD s 0 0 ≡ 13 → getD s 1 0 ≡ 10 → cut form None at (texts s) ≡ by-role None at (λ f. stop whole) (empty-line form)
+pub cut-empty : (form known : Form) (at : ℕ) (s : List ℕ) → form ≡ known → 2 ≤ length s → getD s 0 0 ≡ 13 → getD s 1 0 ≡ 10 → cut form None at (texts s) ≡ by-role None at (λ f. stop whole) (empty-line known)
 unfolding texts
-cut-empty form at s h cr lf =
+cut-empty form known at s same h cr lf =
     let is : s ≡ 13 ∷ 10 ∷ tail 2 s = two-ahead s h ∙ rw (cr, lf) refl in
-    ap (λ t. cut form None at (texts t)) is ∙ cut-line form None at [] (tail 2 s) ∙ role-empty form at (λ f. cut form (Some f) (at + 0 + 2) (texts (tail 2 s)))
+    ap (λ t. cut form None at (texts t)) is
+    ∙ cut-line form None at [] (tail 2 s)
+    ∙ role-empty form at (λ f. cut form (Some f) (at + 0 + 2) (texts (tail 2 s)))
+    ∙ ap (λ f. by-role None at (λ g. stop whole) (empty-line f)) same
 
 -- a first line that opens no field is at fault
 pub first-fault : (form : Form) (at b : ℕ) (t : List ℕ) (ts : List (List ℕ)) → ((u : List ℕ) (us : List (List ℕ)) → ts ≡ u ∷ us → sound (b ∷ t) ≡ true → named at (front ftext (b ∷ t)) (behind ftext (b ∷ t)) ≡ faulty) → cut form None at ((b ∷ t) ∷ ts) ≡ stop (fault at)

@@ -5,7 +5,7 @@ use Prim.Native.Nat.{ℕ}
 use lib.Chars.{codes}
 use Rattle.fields.specs.declared.field.Form.the-variants.{Header, Report}
 use Rattle.fields.specs.Lines.{texts}
-use Rattle.fields.specs.Fields.{PlacedField, field-at, Cut, whole, fault, cut, fields-of}
+use Rattle.fields.specs.Fields.{field-at, whole, fault, cut, fields-of}
 
 abbrev crlf : List ℕ → List ℕ
 crlf s = 13 ∷ 10 ∷ s

@@ -1,23 +1,23 @@
 -- The first line of a field, and its continuation lines.
-use mathlib.Core.Path.{_≡_, refl, sym, ap, subst, _∙_}
-use mathlib.Core.Bool.{Bool, true, false, not, cond, _&&_, _||_}
+use mathlib.Core.Path.{_≡_, refl, sym, ap, _∙_}
+use mathlib.Core.Bool.{Bool, true, false, not, _&&_}
 use mathlib.Core.List.{List, [], _∷_, _++_}
-use Prim.Native.Nat.{ℕ, zero, suc, _+_, _-_, _≤_, _<_}
+use Prim.Native.Nat.{ℕ, suc, _+_, _-_, _≤_, _<_}
 use native.Mathlib.Omega.{arith}
 use lib.Dec.{eqb, leb}
 use lib.ListN.{length, length-append}
 use Rattle.std.specs.declared.option.Option.{Option}
 use Rattle.std.specs.declared.option.Option.the-variants.{Some, None}
-use Rattle.std.proofs.shelf.Tests.{cond-true, cond-false, cond-both, and-parts, and-from, and-left, and-right, both-ways, eqb-true, leb-true, le-leb, not-from-false, not-from-true}
-use Rattle.std.proofs.shelf.Lists.{append-assoc, nil-from-length}
+use Rattle.std.proofs.shelf.Tests.{cond-true, cond-false, cond-both, and-parts, and-from, both-ways, eqb-true, leb-true, le-leb, not-from-false}
+use Rattle.std.proofs.shelf.Lists.{append-assoc}
 use Rattle.fields.specs.declared.field.Form.{Form}
 use Rattle.fields.specs.Limits.{longest-line}
 use Rattle.fields.specs.Classes.{wsp, ftext, plain, every, starts, front, behind}
 use Rattle.fields.specs.Lines.{onto, texts, sound, indented, blank}
-use Rattle.fields.specs.Fields.{PlacedField, field-at, continued, Cut, fault, stop, Role, opens, continues, spoils, faulty, named, opening, continuing, role, closing, by-role, cut}
-use Rattle.fields.specs.Scans.{at-crlf, line-end, past-colon, fold-start, fold-end, no-field}
-use Rattle.fields.proofs.Parting.{Parted, parted, no-crlf, plain-cr, texts-on, texts-front, texts-line, first-starts, every-sub, ftext-plain, ftext-not-wsp, wsp-plain, none-some, crlf-is, Line-at, line-at, no-line}
-use Rattle.fields.proofs.Cutting.{parts-of, front-every, behind-stops, front-is, behind-is, cut-line, first-fault, cut-closes}
+use Rattle.fields.specs.Fields.{PlacedField, field-at, continued, fault, stop, opens, continues, spoils, faulty, named, opening, continuing, role, by-role, cut}
+use Rattle.fields.specs.Scans.{line-end, past-colon, no-field}
+use Rattle.fields.proofs.Parting.{parted, no-crlf, texts-on, texts-front, texts-line, first-starts, every-sub, ftext-plain, ftext-not-wsp, none-some, line-at, no-line}
+use Rattle.fields.proofs.Cutting.{parts-of, front-every, behind-stops, front-is, behind-is, cut-line, first-fault}
 
 pub every-append : (p : ℕ → Bool) (s t : List ℕ) → every p s ≡ true → every p t ≡ true → every p (s ++ t) ≡ true
 every-append p [] t h k = k
@@ -77,10 +77,10 @@ fault-no-colon form at s o q =
     let e : texts s ≡ (n ++ p .first) ∷ p .others = ap texts (parts-of ftext s) ∙ texts-front n r (p .first) (p .others) (plain-front s) (p .are) in
     ap (cut form None at) e
     ∙ fault-first form at (n ++ p .first) (p .others) (first-some s (n ++ p .first) (p .others) e o)
-      (λ u us _ _.
-        ap (λ x. named at x (behind ftext (n ++ p .first))) (front-is ftext n (p .first) (front-every ftext s) stops)
-        ∙ ap (named at n) (behind-is ftext n (p .first) (front-every ftext s) stops)
-        ∙ named-none at n (p .first) (first-starts (λ b. eqb b 58) r (p .first) (p .others) (p .are) (no-colon r q)))
+    (λ u us _ _.
+    ap (λ x. named at x (behind ftext (n ++ p .first))) (front-is ftext n (p .first) (front-every ftext s) stops)
+    ∙ ap (named at n) (behind-is ftext n (p .first) (front-every ftext s) stops)
+    ∙ named-none at n (p .first) (first-starts (λ b. eqb b 58) r (p .first) (p .others) (p .are) (no-colon r q)))
 
 colon-is : (s text : List ℕ) → past-colon s ≡ Some text → s ≡ 58 ∷ text
 colon-is [] text e = absurd (none-some e)
@@ -89,6 +89,10 @@ colon-is (b ∷ s) text e =
     (λ h q. let x : b ≡ 58 = eqb-true b 58 h in let y : s ≡ text = cc in cc)
     (λ _ n. absurd (none-some n))
     e
+
+-- as a reader finds it: r is what is left behind the name
+pub behind-name : (s r text : List ℕ) → r ≡ behind ftext s → Some text ≡ past-colon r → past-colon (behind ftext s) ≡ Some text
+behind-name s r text a b = ap past-colon (sym a) ∙ sym b
 
 -- the parts of a sound line
 pub sound-parts : (t : List ℕ) → sound t ≡ true → (every plain t ≡ true) × (length t ≤ longest-line)
@@ -113,36 +117,43 @@ module _ (at : ℕ) (s text : List ℕ) (q : past-colon (behind ftext s) ≡ Som
   pub named-length : length s ≡ length (front ftext s) + 1 + length text
   named-length = ap length named-is ∙ length-append (front ftext s) (58 ∷ text) ∙ omega arith
 
+  -- the room that the name and the colon leave to the first line
+  pub room-left : (r : Option (List ℕ)) → r ≡ line-end (longest-line - (length s - length text)) text → line-end (longest-line - (length (front ftext s) + 1)) text ≡ r
+  room-left r e =
+      let size = named-length in
+      let used : length (front ftext s) + 1 ≡ length s - length text = omega arith in
+      ap (λ n. line-end (longest-line - n) text) used ∙ sym e
+
   -- the line is none if it is at fault wherever a CRLF ends it and a name stands there
   pub fault-named : ((t u : List ℕ) (us : List (List ℕ)) → texts text ≡ t ∷ u ∷ us → sound (front ftext s ++ 58 ∷ t) ≡ true → front ftext s ≡ []) → (form : Form) → cut form None at (texts s) ≡ stop (fault at)
   fault-named h form =
       let n = front ftext s in
       let p = parted text in
       let e : texts s ≡ (n ++ 58 ∷ p .first) ∷ p .others =
-        ap texts named-is ∙ texts-front n (58 ∷ text) (58 ∷ p .first) (p .others) (plain-front s) (texts-on 58 text (no-crlf 58 text refl) ∙ ap (onto 58) (p .are)) in
+      ap texts named-is ∙ texts-front n (58 ∷ text) (58 ∷ p .first) (p .others) (plain-front s) (texts-on 58 text (no-crlf 58 text refl) ∙ ap (onto 58) (p .are)) in
       let l : 0 < length (n ++ 58 ∷ p .first) = simp length-append (omega arith) in
       ap (cut form None at) e
       ∙ fault-first form at (n ++ 58 ∷ p .first) (p .others) l
-        (λ u us k i.
-          ap (λ x. named at x (behind ftext (n ++ 58 ∷ p .first))) (front-is ftext n (58 ∷ p .first) (front-every ftext s) refl ∙ h (p .first) u us (p .are ∙ ap (λ ts. p .first ∷ ts) k) i))
+      (λ u us k i.
+      ap (λ x. named at x (behind ftext (n ++ 58 ∷ p .first))) (front-is ftext n (58 ∷ p .first) (front-every ftext s) refl ∙ h (p .first) u us (p .are ∙ ap (λ ts. p .first ∷ ts) k) i))
 
   pub fault-long : longest-line < length (front ftext s) + 1 → (form : Form) → cut form None at (texts s) ≡ stop (fault at)
   fault-long h =
       fault-named (λ t u us _ i.
-        let x = sound-parts (front ftext s ++ 58 ∷ t) i .1 in
-        let y : length (front ftext s ++ 58 ∷ t) ≡ length (front ftext s) + suc (length t) = length-append (front ftext s) (58 ∷ t) in
-        absurd (omega arith))
+      let x = sound-parts (front ftext s ++ 58 ∷ t) i .1 in
+      let y : length (front ftext s ++ 58 ∷ t) ≡ length (front ftext s) + suc (length t) = length-append (front ftext s) (58 ∷ t) in
+      absurd (omega arith))
 
   pub fault-line : line-end (longest-line - (length (front ftext s) + 1)) text ≡ None → (form : Form) → cut form None at (texts s) ≡ stop (fault at)
   fault-line h =
       fault-named (λ t u us e i.
-        let n = front ftext s in
-        let room = longest-line - (length n + 1) in
-        let x = sound-parts (n ++ 58 ∷ t) i in
-        let y : length (n ++ 58 ∷ t) ≡ length n + suc (length t) = length-append n (58 ∷ t) in
-        let k : length t ≤ room = omega (arith, x .1) in
-        let plains = and-parts (plain 58) (every plain t) (every-right plain n (58 ∷ t) (x .0)) .1 in
-        absurd (both-ways (every plain t && leb (length t) room) (no-line room text t u us h e) (and-from (every plain t) (leb (length t) room) plains (le-leb (length t) room k))))
+      let n = front ftext s in
+      let room = longest-line - (length n + 1) in
+      let x = sound-parts (n ++ 58 ∷ t) i in
+      let y : length (n ++ 58 ∷ t) ≡ length n + suc (length t) = length-append n (58 ∷ t) in
+      let k : length t ≤ room = omega (arith, x .1) in
+      let plains = and-parts (plain 58) (every plain t) (every-right plain n (58 ∷ t) (x .0)) .1 in
+      absurd (both-ways (every plain t && leb (length t) room) (no-line room text t u us h e) (and-from (every plain t) (leb (length t) room) plains (le-leb (length t) room k))))
 
 -- the first line is sound, and the field open
 pub opened-by : (form : Form) (at : ℕ) (n t s rest : List ℕ) → 1 ≤ length n → every ftext n ≡ true → sound (n ++ 58 ∷ t) ≡ true → s ≡ (n ++ 58 ∷ t) ++ 13 ∷ 10 ∷ rest → cut form None at (texts s) ≡ cut form (Some (field-at at n t)) (at + length n + 1 + length t + 2) (texts rest)
@@ -163,7 +174,7 @@ opened at s text end q some fits e =
     let t = l .text in
     let size : length (n ++ 58 ∷ t) ≤ longest-line = let y : length (n ++ 58 ∷ t) ≡ length n + suc (length t) = length-append n (58 ∷ t) in omega (arith, l .fits) in
     let is : s ≡ (n ++ 58 ∷ t) ++ 13 ∷ 10 ∷ l .rest =
-      named-is at s text q ∙ ap (λ x. n ++ 58 ∷ x) (l .whole-is ∙ ap (λ x. t ++ x) (l .end-is)) ∙ sym (append-assoc n (58 ∷ t) (13 ∷ 10 ∷ l .rest)) in
+    named-is at s text q ∙ ap (λ x. n ++ 58 ∷ x) (l .whole-is ∙ ap (λ x. t ++ x) (l .end-is)) ∙ sym (append-assoc n (58 ∷ t) (13 ∷ 10 ∷ l .rest)) in
     record {
       body = t;
       rest = l .rest;

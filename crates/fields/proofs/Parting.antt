@@ -1,6 +1,6 @@
 -- What parting at each CRLF gives.
 use mathlib.Core.Path.{_≡_, refl, sym, ap, _∙_}
-use mathlib.Core.Bool.{Bool, true, false, not, cond, _&&_, _||_}
+use mathlib.Core.Bool.{Bool, true, false, cond, _&&_, _||_}
 use mathlib.Core.List.{List, [], _∷_, _++_}
 use Prim.Native.Nat.{ℕ, zero, suc, compare·suc-suc, _≤_}
 use native.Mathlib.Omega.{arith}
@@ -8,9 +8,9 @@ use lib.Dec.{eqb, leb}
 use lib.ListN.{length}
 use Rattle.std.specs.declared.option.Option.{Option}
 use Rattle.std.specs.declared.option.Option.the-variants.{Some, None}
-use Rattle.std.proofs.shelf.Tests.{cond-false, cond-both, and-parts, and-left, and-right, and-from, or-parts, not-true, eqb-true, eqb-false, ne-eqb, leb-true, lt-leb, or-cases, both-ways}
+use Rattle.std.proofs.shelf.Tests.{cond-false, cond-both, and-parts, and-left, and-right, and-from, or-parts, not-true, eqb-true, ne-eqb, leb-true, lt-leb, or-cases, both-ways}
 use Rattle.std.proofs.shelf.Lists.{append-nil}
-use mathlib.Core.Logic.{_⊎_, inl, inr, ⊎-elim}
+use mathlib.Core.Logic.{⊎-elim}
 use Rattle.fields.specs.Classes.{wsp, ftext, plain, every, starts}
 use Rattle.fields.specs.Lines.{onto, texts}
 use Rattle.fields.specs.Scans.{at-crlf, line-end}
@@ -88,10 +88,10 @@ first-starts g (b ∷ c ∷ s) t ts e h =
     cond-both (eqb b 13 && eqb c 10) ([] ∷ texts s) (onto b (texts (c ∷ s))) (λ us. us ≡ t ∷ ts → starts g t ≡ false)
     (λ _ q. let same : [] ≡ t = cc in ap (starts g) (sym same))
     (λ _ q.
-      let p = parted (c ∷ s) in
-      let r : (b ∷ p .first) ∷ p .others ≡ t ∷ ts = sym (ap (onto b) (p .are)) ∙ q in
-      let same : b ∷ p .first ≡ t = cc in
-      ap (starts g) (sym same) ∙ h)
+    let p = parted (c ∷ s) in
+    let r : (b ∷ p .first) ∷ p .others ≡ t ∷ ts = sym (ap (onto b) (p .are)) ∙ q in
+    let same : b ∷ p .first ≡ t = cc in
+    ap (starts g) (sym same) ∙ h)
     e
 
 pub none-some : {A : Type 0} {a : A} → _≡_ {A = Option A} None (Some a) → ⊥
@@ -158,7 +158,7 @@ no-line (suc k) (b ∷ s) t u us q e =
     let P : Option (List ℕ) → Type 0 = λ o. o ≡ None → Q in
     cond-both (at-crlf (b ∷ s)) (Some (b ∷ s)) (cond (plain b) (line-end k s) None) P (λ _ n. absurd (none-some (sym n)))
     (λ h. let x = shifted b s t u us e h in
-      cond-both (plain b) (line-end k s) None P
-      (λ y n. rw (x .1) (rw y (rw compare·suc-suc (no-line k s (x .0) u us n (x .2)))))
-      (λ y n. rw (x .1) (rw y refl)))
+    cond-both (plain b) (line-end k s) None P
+    (λ y n. rw (x .1) (rw y (rw compare·suc-suc (no-line k s (x .0) u us n (x .2)))))
+    (λ y n. rw (x .1) (rw y refl)))
     q

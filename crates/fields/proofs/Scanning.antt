@@ -1,14 +1,12 @@
 -- One turn of each scanner.
 use mathlib.Core.Path.{_≡_, refl, sym, ap, _∙_}
-use mathlib.Core.Bool.{Bool, true, false, cond, _&&_, _||_}
+use mathlib.Core.Bool.{Bool, true, false, cond}
 use mathlib.Core.List.{List, [], _∷_}
 use Prim.Native.Nat.{ℕ, zero, suc, _-_, _≤_, _<_}
 use native.Mathlib.Omega.{arith}
-use lib.Dec.{eqb}
 use lib.ListN.{length, getD}
-use Rattle.std.specs.declared.option.Option.{Option}
 use Rattle.std.specs.declared.option.Option.the-variants.{Some, None}
-use Rattle.std.proofs.shelf.Tests.{cond-true, cond-false, cond-both, ne-eqb}
+use Rattle.std.proofs.shelf.Tests.{cond-true, cond-false, ne-eqb}
 use Rattle.fields.specs.Classes.{wsp, plain, behind}
 use Rattle.fields.specs.Scans.{at-crlf, crlf-here, line-end, past-colon, fold-start}
 use Rattle.fields.proofs.Patterns.{tail, one-ahead, three-ahead}

@@ -1,6 +1,6 @@
 -- What is left is further on in the same bytes.
 use mathlib.Core.Path.{_≡_}
-use Prim.Native.Nat.{ℕ, _+_, _<_}
+use Prim.Native.Nat.{_+_, _<_}
 use lib.ListN.{length}
 use Rattle.fields.specs.declared.part.Part.{Part}
 use Rattle.fields.specs.declared.field.Next.{Next}

@@ -5,9 +5,9 @@ use mathlib.Core.List.{List, [], _∷_, _++_}
 use Prim.Native.Nat.{ℕ, suc, _+_, _≤_}
 use lib.ListN.{length}
 use Rattle.std.specs.declared.result.Result.{Result}
-use Rattle.std.specs.declared.result.Result.the-variants.{Ok, Err}
+use Rattle.std.specs.declared.result.Result.the-variants.{Ok}
 use Rattle.fields.specs.declared.field.Form.{Form}
-use Rattle.fields.specs.declared.field.Form.the-variants.{Header, Report}
+use Rattle.fields.specs.declared.field.Form.the-variants.{Header}
 use Rattle.fields.specs.declared.refusal.Objection.{Objection}
 use Rattle.fields.specs.declared.refusal.Refusal.{Refusal}
 use Rattle.fields.specs.Limits.{longest-input, most-fields}
@@ -50,7 +50,7 @@ pub data Rest : Form → List ℕ → Type 0 where
 pub data Built (form : Form) : ℕ → List PlacedField → List ℕ → Type 0 where
   over : {at : ℕ} {s : List ℕ} → Rest form s → Built form at [] s
   field : {at : ℕ} {name body s : List ℕ} {fs : List PlacedField} → Field-text name body → Built form (at + length name + 1 + length body + 2) fs s
-    → Built form at (field-at at name body ∷ fs) ((name ++ 58 ∷ body) ++ 13 ∷ 10 ∷ s)
+      → Built form at (field-at at name body ∷ fs) ((name ++ 58 ∷ body) ++ 13 ∷ 10 ∷ s)
 
 -- an input is cut with no fault exactly if it is so built, and then into the fields that it is built of
 pub record Cut-exactly (form : Form) (s : List ℕ) : Type 0 where

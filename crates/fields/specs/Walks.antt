@@ -12,7 +12,7 @@ use Rattle.fields.specs.declared.refusal.Objection.{Objection}
 use Rattle.fields.specs.declared.refusal.Refusal.{Refusal}
 use Rattle.fields.specs.declared.refusal.Refusal.the-variants.{TooLong, BadLine, TooManyFields, Objected}
 use Rattle.fields.specs.Limits.{longest-input, most-fields}
-use Rattle.fields.specs.Fields.{PlacedField, Ending, whole, fault, Cut, fields-of}
+use Rattle.fields.specs.Fields.{PlacedField, Ending, whole, fault, fields-of}
 
 -- what a call makes of the state: its new value, or the reason why not
 abbrev pub became : {A S E : Type 0} → Result A E → S → Result S E

@@ -39,7 +39,9 @@ pub fn skip<'a, C: Class>(s: &'a [u8]) -> &'a [u8]
     ensures { λ r. ⌜ now r ≡ behind test (now (s .entry)) ⌝ }
 {
     let mut rest = s;
-    while let [b, tail @ ..] = rest && C::holds(*b) {
+    while let [b, tail @ ..] = rest
+        && C::holds(*b)
+    {
         rest = tail;
     }
     rest

@@ -74,8 +74,17 @@ fn read_field<'a>(from: Part<'a>) -> Next<'a>
         };
         end = line_end;
     }
-    let name = Part { at: from.at, text: &from.text[0..used - 1] };
-    let body = Part { at: from.at + used, text: &text[0..text.len() - end.len()] };
-    let rest = Part { at: from.at + (from.text.len() - end.len()) + 2, text: &end[2..] };
+    let name = Part {
+        at: from.at,
+        text: &from.text[0..used - 1],
+    };
+    let body = Part {
+        at: from.at + used,
+        text: &text[0..text.len() - end.len()],
+    };
+    let rest = Part {
+        at: from.at + (from.text.len() - end.len()) + 2,
+        text: &end[2..],
+    };
     Next::First(Field { name, body }, rest)
 }

@@ -1,7 +1,4 @@
 // Parts of the input, each with its place.
-ghost use mathlib.Core.Path.{_≡_};
-ghost use Prim.Native.Nat.{_+_, _<_, _≤_, _^_, _-_};
-ghost use lib.ListN.{length, take};
 ghost use Rattle.std.specs.Orderings.{Decides};
 ghost use Rattle.fields.specs.Names.{Same-name};
 

@@ -1,6 +1,6 @@
 // Why an input is refused, and the numbers by which that is told.
 ghost use mathlib.Core.Path.{_≡_};
-ghost use Rattle.fields.specs.Refusals.{objection-number, numbered};
+ghost use Rattle.fields.specs.Refusals.{numbers-at, objection-number, numbered};
 
 // A field, counted from 1, and a byte of the input, counted from 0.
 #[derive(Clone, Copy)]
@@ -20,11 +20,12 @@ pub enum Objection {
     NotAscii,
 }
 
+// Why an input is refused.
 #[derive(Clone, Copy)]
 pub enum Refusal {
     // More than 32,768 bytes.
     TooLong,
-    // A line that is none. The byte is the line's first.
+    // A line at fault. The byte is the line's first.
     BadLine(Place),
     // A 257th field. Here and below the byte is the field's first.
     TooManyFields(Place),
@@ -39,6 +40,23 @@ pub struct Numbers {
     pub layer: u8,
     pub field: usize,
     pub byte: usize,
+}
+
+// The place of a refusal that concerns no field.
+const NOWHERE: Place = Place { field: 0, byte: 0 };
+
+impl Place {
+    fn numbers(self, number: u8, layer: u8) -> Numbers
+        ensures { λ r. ⌜ r ≡ numbers-at number layer self ⌝ }
+    {
+        let Place { field, byte } = self;
+        Numbers {
+            number,
+            layer,
+            field,
+            byte,
+        }
+    }
 }
 
 impl Objection {
@@ -58,10 +76,10 @@ impl Refusal {
         ensures { λ r. ⌜ r ≡ numbered self ⌝ }
     {
         match self {
-            Refusal::TooLong => Numbers { number: 1, layer: 1, field: 0, byte: 0 },
-            Refusal::BadLine(p) => Numbers { number: 2, layer: 1, field: p.field, byte: p.byte },
-            Refusal::TooManyFields(p) => Numbers { number: 3, layer: 1, field: p.field, byte: p.byte },
-            Refusal::Objected(why, p) => Numbers { number: why.number(), layer: 2, field: p.field, byte: p.byte },
+            Refusal::TooLong => NOWHERE.numbers(1, 1),
+            Refusal::BadLine(line) => line.numbers(2, 1),
+            Refusal::TooManyFields(field) => field.numbers(3, 1),
+            Refusal::Objected(why, field) => field.numbers(why.number(), 2),
         }
     }
 }

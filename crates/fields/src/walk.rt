@@ -36,7 +36,11 @@ pub trait Collector<'a> {
 }
 
 // Tells each field of the input to the collector, in order, and gives the collector back, or the first refusal.
-pub fn walk<'a, C: Collector<'a> + Drop>(form: Form, input: &'a [u8], mut collector: C) -> Result<C, Refusal>
+pub fn walk<'a, C: Collector<'a> + Drop>(
+    form: Form,
+    input: &'a [u8],
+    mut collector: C,
+) -> Result<C, Refusal>
     ensures walks { λ r. ⌜ meaning state r ≡ walked step (state collector) form (now (input .entry)) ⌝ }
     ensures exactly { λ r. ⌜ Walk-exactly step (state collector) form (now (input .entry)) (meaning state r) ⌝ }
 {
@@ -50,7 +54,10 @@ pub fn walk<'a, C: Collector<'a> + Drop>(form: Form, input: &'a [u8], mut collec
             Next::End => return Ok(collector),
             Next::Fault(byte) => return Err(Refusal::BadLine(Place { field, byte })),
             Next::First(told, behind) => {
-                let place = Place { field, byte: told.name.at };
+                let place = Place {
+                    field,
+                    byte: told.name.at,
+                };
                 if field > MOST_FIELDS {
                     return Err(Refusal::TooManyFields(place));
                 }

@@ -20,6 +20,9 @@ fn run(rt: &LibcRuntime) -> Result<Verdict, AnyError> {
     let _program = args.next();
     let command = args.next().ok_or(USAGE)?;
     let file = args.next().ok_or(USAGE)?;
+    if args.next().is_some() {
+        return Err(USAGE.into());
+    }
     match command.as_str() {
         "fields" => show::fields(rt, file.as_str()),
         _ => Err(USAGE.into()),

@@ -21,7 +21,7 @@ pub fn fields(rt: &LibcRuntime, file: &str) -> Result<Verdict, AnyError> {
     match list(rt.alloc(), Form::Header, input.as_slice()) {
         Ok(found) => {
             let count = found.len();
-            println!(rt, "{file}: a header of {count} fields")?;
+            println!(rt, "{file}: accepted, number of fields: {count}")?;
             for (i, field) in found.iter().enumerate() {
                 print_field(rt, i.saturating_add(1), field)?;
             }
@@ -40,7 +40,10 @@ fn print_field(rt: &LibcRuntime, number: usize, field: &Field) -> io::Result<()>
     let name = std::str::from_utf8(field.name.text).unwrap_or("?");
     let size = field.body.text.len();
     let body_at = field.body.at;
-    println!(rt, "field {number} at byte {at}: {name}, body of {size} bytes at byte {body_at}")
+    println!(
+        rt,
+        "field {number} at byte {at}: {name}, body of {size} bytes at byte {body_at}"
+    )
 }
 
 fn print_refusal(rt: &LibcRuntime, file: &str, why: Refusal) -> io::Result<()> {
@@ -50,7 +53,10 @@ fn print_refusal(rt: &LibcRuntime, file: &str, why: Refusal) -> io::Result<()> {
     let field = n.field;
     let byte = n.byte;
     let cause = cause(why);
-    println!(rt, "{file}: refused {number} of layer {layer} at field {field}, byte {byte}: {cause}")
+    println!(
+        rt,
+        "{file}: refused {number} of layer {layer} at field {field}, byte {byte}: {cause}"
+    )
 }
 
 fn cause(why: Refusal) -> &'static str {

@@ -1,9 +1,9 @@
 -- With room for every field that a walk may tell, all are kept.
 use mathlib.Core.Path.{_≡_, refl, sym, ap, subst, _∙_}
 use mathlib.Core.Logic.{⊎-elim}
-use mathlib.Core.Bool.{Bool, true, false, cond}
+use mathlib.Core.Bool.{cond}
 use mathlib.Core.List.{List, [], _∷_, _++_, map}
-use Prim.Native.Nat.{ℕ, suc, _+_, _≤_, _<_}
+use Prim.Native.Nat.{ℕ, suc, _≤_, _<_}
 use native.Mathlib.Omega.{arith}
 use lib.Dec.{ltb}
 use lib.ListN.{length}
@@ -18,7 +18,7 @@ use Rattle.fields.specs.declared.refusal.Refusal.the-variants.{TooLong, TooMany
 use Rattle.fields.specs.Limits.{longest-input, most-fields}
 use Rattle.fields.specs.Fields.{PlacedField, Ending, whole, fault, fields-of}
 use Rattle.fields.specs.Seen.{placed-field}
-use Rattle.fields.specs.Walks.{meaning, place, taken, told, walked}
+use Rattle.fields.specs.Walks.{meaning, place, told, walked}
 use Rattle.fields.specs.Built.{all-told, Input}
 use Rattle.fields.proofs.Accepting.{walk-exactly}
 use Rattle.listing.specs.Listed.{appended, listed, Listed-exactly}
@@ -54,12 +54,12 @@ module _ (room : ℕ) (h : most-fields ≤ room) where
       ⊎-elim
       (λ y. cond-true (ltb most-fields n) none-kept on-kept y ∙ sym (ap (meaning (in-room room)) (cond-true (ltb most-fields n) none on y)))
       (λ y.
-        let few = ltb-false most-fields n y in
-        let size = length-push acc f in
-        cond-false (ltb most-fields n) none-kept on-kept y
-        ∙ ap (λ k. told keep (suc n) k fs e) (cond-true (ltb (length acc) room) (in-room room more) (in-room room acc) (lt-ltb (length acc) room (omega arith)))
-        ∙ told-kept (suc n) more fs e (omega arith)
-        ∙ sym (ap (meaning (in-room room)) (cond-false (ltb most-fields n) none on y)))
+      let few = ltb-false most-fields n y in
+      let size = length-push acc f in
+      cond-false (ltb most-fields n) none-kept on-kept y
+      ∙ ap (λ k. told keep (suc n) k fs e) (cond-true (ltb (length acc) room) (in-room room more) (in-room room acc) (lt-ltb (length acc) room (omega arith)))
+      ∙ told-kept (suc n) more fs e (omega arith)
+      ∙ sym (ap (meaning (in-room room)) (cond-false (ltb most-fields n) none on y)))
       (cases-bool (ltb most-fields n))
 
   pub walked-kept : (form : Form) (s : List ℕ) → walked keep (in-room room []) form s ≡ meaning (in-room room) (listed form s)

@@ -1,6 +1,5 @@
 // The list of an input's fields.
 ghost use mathlib.Core.Path.{_≡_};
-ghost use Rattle.fields.specs.Fields.{PlacedField};
 ghost use Rattle.listing.specs.declared.Unlisted.the-variants.{Memory, Refused as RefusedFor};
 ghost use Rattle.listing.specs.Listed.{listed, Holds, Listed-exactly};
 ghost use Rattle.listing.specs.Kept.{Roomy, roomy, keep};
@@ -63,7 +62,9 @@ pub fn list<'a>(heap: Global, form: Form, input: &'a [u8]) -> Result<Vec<Field<'
     ensures holds { λ r. ⌜ Holds (listed form (now (input .entry))) r ⌝ }
     ensures exactly { λ _. ⌜ Listed-exactly form (now (input .entry)) ⌝ }
 {
-    let room = Listing { fields: Vec::with_capacity(heap, MOST_FIELDS)? };
+    let room = Listing {
+        fields: Vec::with_capacity(heap, MOST_FIELDS)?,
+    };
     let Listing { fields } = walk(form, input, room)?;
     Ok(fields)
 }

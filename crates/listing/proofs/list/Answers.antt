@@ -19,8 +19,8 @@ returns-in-Break-fields c =
     let made = c .in-Continue-with-capacity .ensures tt .made in
     record {
       holds =
-        let p = err-from-errBy (c .from-residual-in-Break-fields .result) (c .from-residual-in-Break-fields .ensures .1) in
-        rw (p .1, p .2) (refusal-is (roomy (record { fields = empty })) (c .args .form) (c .args .input .now) (ap (map placed-field) (made .0)) (made .1 .1) (c .in-Break-fields .field-0 .0) (c .in-Break-fields .ensures tt .walks));
+          let p = err-from-errBy (c .from-residual-in-Break-fields .result) (c .from-residual-in-Break-fields .ensures .1) in
+          rw (p .1, p .2) (refusal-is (roomy (record { fields = empty })) (c .args .form) (c .args .input .now) (ap (map placed-field) (made .0)) (made .1 .1) (c .in-Break-fields .field-0 .0) (c .in-Break-fields .ensures tt .walks));
       exactly = listed-exactly (c .args .form) (c .args .input .now);
     }
 

@@ -1,7 +1,6 @@
-use mathlib.Core.Path.{_≡_, sym, ap, _∙_}
+use mathlib.Core.Path.{sym, _∙_}
 use native.Mathlib.Omega.{arith}
 use borrow.Author.Tests.{ltb-true, ltb-false}
-use Rattle.fields.specs.Scans.{line-end}
 use Rattle.fields.proofs.Scanning.{line-here, line-more, line-none}
 use Rattle.fields.proofs.line.line_end.Needs as need
 
