@@ -11,7 +11,7 @@ use Rattle.fields.specs.declared.field.Form.the-variants.{Header}
 use Rattle.fields.specs.declared.refusal.Objection.{Objection}
 use Rattle.fields.specs.declared.refusal.Refusal.{Refusal}
 use Rattle.fields.specs.Limits.{longest-input, most-fields}
-use Rattle.fields.specs.Classes.{ftext, every}
+use Rattle.fields.specs.Classes.{CR, LF, colon, ftext, every}
 use Rattle.fields.specs.Lines.{sound, indented, blank}
 use Rattle.fields.specs.Fields.{PlacedField, field-at, whole, fields-of}
 use Rattle.fields.specs.Walks.{place, taken}
@@ -30,7 +30,7 @@ pub record Continuation (t : List ℕ) : Type 0 where
 -- the folds of a body: each a CRLF and a continuation
 pub data Folds : List ℕ → Type 0 where
   none : Folds []
-  fold : {t s : List ℕ} → Continuation t → Folds s → Folds (13 ∷ 10 ∷ t ++ s)
+  fold : {t s : List ℕ} → Continuation t → Folds s → Folds (CR ∷ LF ∷ t ++ s)
 
 -- a name and the body behind its colon, that is the rest of the first line and the folds
 pub record Field-text (name body : List ℕ) : Type 0 where
@@ -38,19 +38,19 @@ pub record Field-text (name body : List ℕ) : Type 0 where
   pub first : List ℕ
   pub folds : List ℕ
   pub body-is : body ≡ first ++ folds
-  pub first-line : sound (name ++ 58 ∷ first) ≡ true
+  pub first-line : sound (name ++ colon ∷ first) ≡ true
   pub folded : Folds folds
 
 -- what may stand behind the last field: nothing, and in a header also an empty line and any rest
 pub data Rest : Form → List ℕ → Type 0 where
   nothing : {form : Form} → Rest form []
-  empty-line : {s : List ℕ} → Rest Header (13 ∷ 10 ∷ s)
+  empty-line : {s : List ℕ} → Rest Header (CR ∷ LF ∷ s)
 
 -- from byte `at` on, s is the lines of these fields, each name, colon, body and CRLF, and then the rest
 pub data Built (form : Form) : ℕ → List PlacedField → List ℕ → Type 0 where
   over : {at : ℕ} {s : List ℕ} → Rest form s → Built form at [] s
   field : {at : ℕ} {name body s : List ℕ} {fs : List PlacedField} → Field-text name body → Built form (at + length name + 1 + length body + 2) fs s
-      → Built form at (field-at at name body ∷ fs) ((name ++ 58 ∷ body) ++ 13 ∷ 10 ∷ s)
+      → Built form at (field-at at name body ∷ fs) ((name ++ colon ∷ body) ++ CR ∷ LF ∷ s)
 
 -- an input is cut with no fault exactly if it is so built, and then into the fields that it is built of
 pub record Cut-exactly (form : Form) (s : List ℕ) : Type 0 where

@@ -4,6 +4,15 @@ use mathlib.Core.List.{List, [], _∷_}
 use Prim.Native.Nat.{ℕ}
 use lib.Dec.{eqb, leb}
 
+abbrev pub CR : ℕ
+CR = 13
+
+abbrev pub LF : ℕ
+LF = 10
+
+abbrev pub colon : ℕ
+colon = 58
+
 -- a space or a tab
 abbrev pub wsp : ℕ → Bool
 wsp b = eqb b 32 || eqb b 9
@@ -14,7 +23,7 @@ ftext b = (leb 33 b && leb b 57) || (leb 59 b && leb b 126)
 
 -- what may stand in a line before its CRLF: neither NUL nor LF nor CR
 abbrev pub plain : ℕ → Bool
-plain b = not (eqb b 0 || (eqb b 10 || eqb b 13))
+plain b = not (eqb b 0 || (eqb b LF || eqb b CR))
 
 abbrev pub every : (ℕ → Bool) → List ℕ → Bool
 every p [] = true

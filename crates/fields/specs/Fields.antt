@@ -8,7 +8,7 @@ use Rattle.std.specs.declared.option.Option.{Option}
 use Rattle.std.specs.declared.option.Option.the-variants.{Some, None}
 use Rattle.fields.specs.declared.field.Form.{Form}
 use Rattle.fields.specs.declared.field.Form.the-variants.{Header, Report}
-use Rattle.fields.specs.Classes.{ftext, front, behind}
+use Rattle.fields.specs.Classes.{CR, LF, colon, ftext, front, behind}
 use Rattle.fields.specs.Lines.{texts, sound, indented, blank}
 
 -- bytes of the input, and how many stand before them there
@@ -26,13 +26,14 @@ field-at at name body = record { name = record { at = at; bytes = name }; body =
 
 -- the same field with one line more
 abbrev pub continued : PlacedField → List ℕ → PlacedField
-continued f t = record { name = f .name; body = record { at = f .body .at; bytes = f .body .bytes ++ 13 ∷ 10 ∷ t } }
+continued f t = record { name = f .name; body = record { at = f .body .at; bytes = f .body .bytes ++ CR ∷ LF ∷ t } }
 
 -- how an input's fields end: there are no more, or the line at this byte is at fault
 pub data Ending : Type 0 where
   whole : Ending
   fault : ℕ → Ending
 
+-- the fields of an input, in order, and how they end
 pub record Cut : Type 0 where
   pub fields : List PlacedField
   pub ending : Ending
@@ -54,13 +55,13 @@ pub data Role : Type 0 where
 abbrev pub named : ℕ → List ℕ → List ℕ → Role
 named at [] rest = faulty
 named at (b ∷ name) [] = faulty
-named at (b ∷ name) (c ∷ body) = cond (eqb c 58) (opens (field-at at (b ∷ name) body)) faulty
+named at (b ∷ name) (c ∷ body) = cond (eqb c colon) (opens (field-at at (b ∷ name) body)) faulty
 
 abbrev pub empty-line : Form → Role
 empty-line Header = ends
 empty-line Report = faulty
 
--- the role of a line at `at` that is not indented
+-- the role of a line at `at` that is not indented: it is empty, or opens a field
 abbrev pub opening : Form → ℕ → List ℕ → Role
 opening form at [] = empty-line form
 opening form at (b ∷ t) = cond (sound (b ∷ t)) (named at (front ftext (b ∷ t)) (behind ftext (b ∷ t))) faulty
@@ -70,6 +71,7 @@ abbrev pub continuing : Option PlacedField → List ℕ → Role
 continuing None t = spoils
 continuing (Some f) t = cond (sound t && not (blank t)) (continues (continued f t)) spoils
 
+-- the role of a line at `at`, behind the field `before` or as the first line
 abbrev pub role : Form → Option PlacedField → ℕ → List ℕ → Role
 role form before at t = cond (indented t) (continuing before t) (opening form at t)
 
@@ -78,6 +80,7 @@ abbrev pub last-role : List ℕ → Role
 last-role [] = ends
 last-role (b ∷ t) = cond (indented (b ∷ t)) spoils faulty
 
+-- no field, and this ending
 abbrev pub stop : Ending → Cut
 stop e = record { fields = []; ending = e }
 
@@ -86,7 +89,7 @@ abbrev pub closing : Option PlacedField → Cut → Cut
 closing None c = c
 closing (Some f) c = record { fields = f ∷ c .fields; ending = c .ending }
 
--- what a line at `at` behind the field `before` brings; `on f` is what follows the field f
+-- what a line at `at` behind the field `before` brings; `on f` is the cut behind the line, where f is still open
 abbrev pub by-role : Option PlacedField → ℕ → (PlacedField → Cut) → Role → Cut
 by-role before at on (opens f) = closing before (on f)
 by-role before at on (continues f) = on f
@@ -94,7 +97,7 @@ by-role before at on ends = closing before (stop whole)
 by-role before at on spoils = stop (fault at)
 by-role before at on faulty = closing before (stop (fault at))
 
--- the fields of these texts, of which the first stands at `at`, behind the field `before`
+-- the cut of these texts, of which the first stands at `at`, where the field `before`, if any, is still open
 unfoldable pub cut : Form → Option PlacedField → ℕ → List (List ℕ) → Cut
 cut form before at [] = closing before (stop whole)
 cut form before at (t ∷ []) = by-role before at (λ f. stop whole) (last-role t)

@@ -8,4 +8,3 @@ pub mod Walks
 pub mod Built
 pub mod Seen
 pub mod Scans
-pub mod Ahead

@@ -5,7 +5,7 @@ use Prim.Native.Nat.{ℕ}
 use lib.Dec.{eqb, leb}
 use lib.ListN.{length}
 use Rattle.fields.specs.Limits.{longest-line}
-use Rattle.fields.specs.Classes.{wsp, plain, every, starts}
+use Rattle.fields.specs.Classes.{CR, LF, wsp, plain, every, starts}
 
 -- one byte more before the first text
 abbrev pub onto : ℕ → List (List ℕ) → List (List ℕ)
@@ -16,7 +16,7 @@ onto a (t ∷ ts) = (a ∷ t) ∷ ts
 unfoldable pub texts : List ℕ → List (List ℕ)
 texts [] = [] ∷ []
 texts (a ∷ []) = (a ∷ []) ∷ []
-texts (a ∷ b ∷ s) = let ended = [] ∷ texts s in let more = onto a (texts (b ∷ s)) in cond (eqb a 13 && eqb b 10) ended more
+texts (a ∷ b ∷ s) = let ended = [] ∷ texts s in let more = onto a (texts (b ∷ s)) in cond (eqb a CR && eqb b LF) ended more
 
 -- a line's text is sound: at most 998 bytes, and no NUL, no LF and no CR
 abbrev pub sound : List ℕ → Bool

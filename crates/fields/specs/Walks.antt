@@ -27,12 +27,12 @@ meaning f (Err e) = Err e
 abbrev pub place : ℕ → ℕ → Place
 place n at = record { field = n; byte = at }
 
--- what was made of field n, and what follows
+-- what was made of the field at p, and by `on` of those behind it
 abbrev pub taken : {S : Type 0} → Result S Objection → Place → (S → Result S Refusal) → Result S Refusal
 taken (Ok s) p on = on s
 taken (Err why) p on = Err (Objected why p)
 
--- the fields fs, of which the first is field n, told to `step` from the state s on
+-- the fields fs, of which the first is field n, told to `step` from the state s on, up to the first that is refused
 unfoldable pub told : {S : Type 0} → (S → PlacedField → Result S Objection) → ℕ → S → List PlacedField → Ending → Result S Refusal
 told step n s [] whole = Ok s
 told step n s [] (fault at) = Err (BadLine (place n at))
@@ -41,6 +41,7 @@ told step n s (f ∷ fs) e =
     let more = taken (step s f) at (λ t. told step (suc n) t fs e) in
     cond (ltb most-fields n) (Err (TooManyFields at)) more
 
+-- the fields of an input told to `step` from the state s on
 unfoldable pub walked : {S : Type 0} → (S → PlacedField → Result S Objection) → S → Form → List ℕ → Result S Refusal
 walked step s form input =
     let c = fields-of form input in
