@@ -12,12 +12,13 @@ use Rattle.fields.specs.declared.field.Form.{Form}
 use Rattle.fields.specs.declared.refusal.Place.{Place}
 use Rattle.fields.specs.declared.refusal.Objection.{Objection}
 use Rattle.fields.specs.declared.refusal.Refusal.{Refusal}
-use Rattle.fields.specs.declared.refusal.Refusal.the-variants.{TooLong, TooManyFields}
+use Rattle.fields.specs.declared.refusal.Refusal.the-variants.{TooLong, BadLine, TooManyFields}
 use Rattle.fields.specs.Limits.{longest-input, most-fields}
 use Rattle.fields.specs.Fields.{PlacedField, Ending, whole, fault, Cut, fields-of}
 use Rattle.fields.specs.Walks.{place, taken, told, walked}
-use Rattle.fields.specs.Built.{all-told, Input, Walk-exactly}
+use Rattle.fields.specs.Built.{all-told, Input, Input-up-to, Walk-exactly}
 use Rattle.fields.proofs.Building.{cut-exactly}
+use Rattle.fields.proofs.Stopping.{input-up-to}
 
 err-ok : {A E : Type 0} {a : A} {e : E} → _≡_ {A = Result A E} (Err e) (Ok a) → ⊥
 err-ok q = let z : _≡_ {A = ℕ} 0 1 = cc in omega arith
@@ -59,6 +60,28 @@ module _ {S : Type 0} (step : S → PlacedField → Result S Objection) where
       (λ k q. let m = ltb-false most-fields n k in taken-on n s t f fs e (step s f) refl (λ v g. told-taken (suc n) v t fs e (omega arith) g) q)
       h
 
+  -- one field, and then a line at fault
+  fault-on : (n : ℕ) (f : PlacedField) (fs : List PlacedField) (e : Ending) (p : Place) (r : Result S Objection)
+      → ((t : S) → told step (suc n) t fs e ≡ Err (BadLine p) → (p .field ≡ suc n + length fs) × (e ≡ fault (p .byte)))
+      → taken r (place n (f .name .at)) (λ t. told step (suc n) t fs e) ≡ Err (BadLine p) → (p .field ≡ n + length (f ∷ fs)) × (e ≡ fault (p .byte))
+  fault-on n f fs e p (Ok t) more q = let x = more t q in (omega (arith, x .0), x .1)
+  fault-on n f fs e p (Err why) more q = let z : _≡_ {A = ℕ} 0 1 = cc in absurd (omega arith)
+
+  -- the place of a line at fault
+  told-fault : (n : ℕ) (s : S) (fs : List PlacedField) (e : Ending) (p : Place) → told step n s fs e ≡ Err (BadLine p) → (p .field ≡ n + length fs) × (e ≡ fault (p .byte))
+  unfolding told
+  told-fault n s [] whole p h = absurd (err-ok (sym h))
+  told-fault n s [] (fault at) p h =
+      let same : place n at ≡ p = cc in
+      let l : n ≡ p .field = ap (λ (x : Place). x .field) same in
+      (omega arith, ap (λ (x : Place). fault (x .byte)) same)
+  told-fault n s (f ∷ fs) e p h =
+      let at = place n (f .name .at) in
+      cond-both (ltb most-fields n) (Err (TooManyFields at)) (taken (step s f) at (λ t. told step (suc n) t fs e)) (λ r. r ≡ Err (BadLine p) → (p .field ≡ n + length (f ∷ fs)) × (e ≡ fault (p .byte)))
+      (λ _ q. let z : _≡_ {A = ℕ} 0 1 = cc in absurd (omega arith))
+      (λ _ q. fault-on n f fs e p (step s f) (λ t g. told-fault (suc n) t fs e p g) q)
+      h
+
   module _ (s : S) (form : Form) (input : List ℕ) where
     walked-accepts : (t : S) → walked step s form input ≡ Ok t → (fs : List PlacedField) × Input form fs input × (all-told step 1 s fs ≡ Ok t)
     unfolding walked
@@ -79,5 +102,14 @@ module _ {S : Type 0} (step : S → PlacedField → Result S Objection) where
         ∙ ap (λ (x : Cut). told step 1 s (x .fields) (x .ending)) (cut-exactly form input .built fs (i .is-built))
         ∙ told-all 1 s fs (omega (arith, i .few))
 
+    walked-stops : (p : Place) → walked step s form input ≡ Err (BadLine p) → (p .field ≡ length (fields-of form input .fields) + 1) × Input-up-to form input (p .byte)
+    unfolding walked
+    walked-stops p h =
+        let c = fields-of form input in
+        cond-both (ltb longest-input (length input)) (Err TooLong) (told step 1 s (c .fields) (c .ending)) (λ r. r ≡ Err (BadLine p) → (p .field ≡ length (c .fields) + 1) × Input-up-to form input (p .byte))
+        (λ _ q. let z : _≡_ {A = ℕ} 0 1 = cc in absurd (omega arith))
+        (λ _ q. let x = told-fault 1 s (c .fields) (c .ending) p q in (omega (arith, x .0), input-up-to form input (p .byte) (x .1)))
+        h
+
     pub walk-exactly : (r : Result S Refusal) → r ≡ walked step s form input → Walk-exactly step s form input r
-    walk-exactly r e = record { cuts = cut-exactly form input; accepted = λ t h. walked-accepts t (sym e ∙ h); tells = λ fs i. e ∙ walked-tells fs i }
+    walk-exactly r e = record { cuts = cut-exactly form input; accepted = λ t h. walked-accepts t (sym e ∙ h); tells = λ fs i. e ∙ walked-tells fs i; stops = λ p h. walked-stops p (sym e ∙ h) }

@@ -95,7 +95,7 @@ built-cut {form} {at} (field {name = n} {body = b} {s = s} {fs = fs} x d) =
 -- Cut, then built.
 
 -- the bytes that texts were parted from
-abbrev bytes-of : List (List ℕ) → List ℕ
+abbrev pub bytes-of : List (List ℕ) → List ℕ
 bytes-of [] = []
 bytes-of (t ∷ []) = t
 bytes-of (t ∷ u ∷ us) = t ++ 13 ∷ 10 ∷ bytes-of (u ∷ us)
@@ -109,7 +109,7 @@ bytes-line : (t : List ℕ) (ts : List (List ℕ)) → Parted ts → bytes-of (t
 bytes-line t [] p = let z : _≡_ {A = List (List ℕ)} [] (p .first ∷ p .others) = p .are in let y : _≡_ {A = ℕ} 0 1 = cc in absurd (omega arith)
 bytes-line t (u ∷ us) p = refl
 
-bytes-texts : (s : List ℕ) → bytes-of (texts s) ≡ s
+pub bytes-texts : (s : List ℕ) → bytes-of (texts s) ≡ s
 unfolding texts
 bytes-texts [] = refl
 bytes-texts (a ∷ []) = refl
@@ -123,7 +123,7 @@ bytes-texts (a ∷ b ∷ s) =
     cc)
     (λ _. bytes-onto a (texts (b ∷ s)) (parted (b ∷ s)) ∙ ap (λ y. a ∷ y) (bytes-texts (b ∷ s)))
 
-fault-whole : {at : ℕ} → fault at ≡ whole → ⊥
+pub fault-whole : {at : ℕ} → fault at ≡ whole → ⊥
 fault-whole e = let y : _≡_ {A = ℕ} 0 1 = cc in omega arith
 
 -- what a cut with no fault shows of the bytes s behind a line of the field f

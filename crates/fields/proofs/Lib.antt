@@ -7,4 +7,5 @@ pub mod Opening
 pub mod Folding
 pub mod Walking
 pub mod Building
+pub mod Stopping
 pub mod Accepting

@@ -2,14 +2,16 @@
 use mathlib.Core.Path.{_≡_}
 use mathlib.Core.Bool.{true, false}
 use mathlib.Core.List.{List, [], _∷_, _++_}
-use Prim.Native.Nat.{ℕ, suc, _+_, _≤_}
-use lib.ListN.{length}
+use Prim.Native.Nat.{ℕ, suc, _+_, _≤_, _<_}
+use lib.ListN.{length, take}
 use Rattle.std.specs.declared.result.Result.{Result}
-use Rattle.std.specs.declared.result.Result.the-variants.{Ok}
+use Rattle.std.specs.declared.result.Result.the-variants.{Ok, Err}
 use Rattle.fields.specs.declared.field.Form.{Form}
 use Rattle.fields.specs.declared.field.Form.the-variants.{Header}
+use Rattle.fields.specs.declared.refusal.Place.{Place}
 use Rattle.fields.specs.declared.refusal.Objection.{Objection}
 use Rattle.fields.specs.declared.refusal.Refusal.{Refusal}
+use Rattle.fields.specs.declared.refusal.Refusal.the-variants.{BadLine}
 use Rattle.fields.specs.Limits.{longest-input, most-fields}
 use Rattle.fields.specs.Classes.{CR, LF, colon, ftext, every}
 use Rattle.fields.specs.Lines.{sound, indented, blank}
@@ -57,6 +59,11 @@ pub record Cut-exactly (form : Form) (s : List ℕ) : Type 0 where
   pub accepted : fields-of form s .ending ≡ whole → Built form 0 (fields-of form s .fields) s
   pub built : (fs : List PlacedField) → Built form 0 fs s → fields-of form s ≡ record { fields = fs; ending = whole }
 
+-- s is an input up to byte b and no further: its first b bytes are one, and no longer front of it is
+pub record Input-up-to (form : Form) (s : List ℕ) (b : ℕ) : Type 0 where
+  pub so-far : (fs : List PlacedField) × Built form 0 fs (take b s)
+  pub no-further : (n : ℕ) (fs : List PlacedField) → b < n → Built form 0 fs (take n s) → ⊥
+
 -- the fields fs, of which the first is field n, told to `step` from the state s on, as long as it takes them
 abbrev pub all-told : {S : Type 0} → (S → PlacedField → Result S Objection) → ℕ → S → List PlacedField → Result S Refusal
 all-told step n s [] = Ok s
@@ -68,9 +75,10 @@ pub record Input (form : Form) (fs : List PlacedField) (s : List ℕ) : Type 0 w
   pub few : length fs ≤ most-fields
   pub short : length s ≤ longest-input
 
--- r is what a walk over s from the state s₀ on answers: it accepts nothing but an input all of whose fields it told,
--- and of every input it tells the fields
+-- r is what a walk over s from the state s₀ on answers: it accepts nothing but an input all of whose fields it told;
+-- of every input it tells the fields; and a line at fault stands where s ceases to be an input, behind the fields that are whole
 pub record Walk-exactly {S : Type 0} (step : S → PlacedField → Result S Objection) (s₀ : S) (form : Form) (s : List ℕ) (r : Result S Refusal) : Type 0 where
   pub cuts : Cut-exactly form s
   pub accepted : (t : S) → r ≡ Ok t → (fs : List PlacedField) × Input form fs s × (all-told step 1 s₀ fs ≡ Ok t)
   pub tells : (fs : List PlacedField) → Input form fs s → r ≡ all-told step 1 s₀ fs
+  pub stops : (p : Place) → r ≡ Err (BadLine p) → (p .field ≡ length (fields-of form s .fields) + 1) × Input-up-to form s (p .byte)

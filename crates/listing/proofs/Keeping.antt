@@ -25,11 +25,13 @@ use Rattle.listing.specs.Listed.{appended, listed, Listed-exactly}
 use Rattle.listing.specs.Kept.{Roomy, keep}
 
 -- one field more, and none more
-pub kept : (room : ℕ) (items more : List Field) (f : Field) → length items < room → more ≡ items ++ f ∷ [] → Ok (record { room = room; fields = map placed-field more }) ≡ keep (record { room = room; fields = map placed-field items }) (placed-field f)
-kept room items more f h e =
-    let l : length (map placed-field items) < room = let x : length (map placed-field items) ≡ length items = length-map items placed-field in omega arith in
-    ap (λ fs. Ok (record { room = room; fields = fs })) (ap (map placed-field) e ∙ map-push placed-field items f)
-    ∙ ap Ok (sym (cond-true (ltb (length (map placed-field items)) room) (record { room = room; fields = map placed-field items ++ placed-field f ∷ [] }) (record { room = room; fields = map placed-field items }) (lt-ltb (length (map placed-field items)) room l)))
+pub kept : (room room′ : ℕ) (items more : List Field) (f : Field) → length items < room → more ≡ items ++ f ∷ [] → room′ ≡ room → Ok (record { room = room′; fields = map placed-field more }) ≡ keep (record { room = room; fields = map placed-field items }) (placed-field f)
+kept room room′ items more f h e same =
+    let fs = map placed-field items in
+    let l : length fs < room = let x : length fs ≡ length items = length-map items placed-field in omega arith in
+    ap (λ n. Ok (record { room = n; fields = map placed-field more })) same
+    ∙ ap (λ gs. Ok (record { room = room; fields = gs })) (ap (map placed-field) e ∙ map-push placed-field items f)
+    ∙ ap Ok (sym (cond-true (ltb (length fs) room) (record { room = room; fields = fs ++ placed-field f ∷ [] }) (record { room = room; fields = fs }) (lt-ltb (length fs) room l)))
 
 pub not-kept : (room : ℕ) (items : List Field) (f : Field) → room ≤ length items → Ok (record { room = room; fields = map placed-field items }) ≡ keep (record { room = room; fields = map placed-field items }) (placed-field f)
 not-kept room items f h =
