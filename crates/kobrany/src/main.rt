@@ -1,30 +1,26 @@
-// The program: it reads a file by the library, and prints what was found.
-use show::Verdict;
+// The program: it reads files by the library, and prints what was found.
 use std::env;
 use std::error::AnyError;
 
 mod show;
 
-const USAGE: &str = "usage: kobrany fields FILE";
+const USAGE: &str = "usage: kobrany fields FILE...";
 
-// A refused file has been told on standard output, and ends the program with status 1.
 fn main(rt: LibcRuntime) -> Result<(), AnyError> {
-    match rt.report(run(&rt))? {
-        Verdict::Accepted => Ok(()),
-        Verdict::Refused => Err("refused".into()),
-    }
+    rt.report(run(&rt))
 }
 
-fn run(rt: &LibcRuntime) -> Result<Verdict, AnyError> {
+fn run(rt: &LibcRuntime) -> Result<(), AnyError> {
     let mut args = env::args(rt)?;
     let _program = args.next();
     let command = args.next().ok_or(USAGE)?;
     let file = args.next().ok_or(USAGE)?;
-    if args.next().is_some() {
+    if command.as_str() != "fields" {
         return Err(USAGE.into());
     }
-    match command.as_str() {
-        "fields" => show::fields(rt, file.as_str()),
-        _ => Err(USAGE.into()),
+    show::fields(rt, file.as_str())?;
+    for more in args {
+        show::fields(rt, more.as_str())?;
     }
+    Ok(())
 }

@@ -9,14 +9,8 @@ use std::error::AnyError;
 use std::fs;
 use std::io;
 
-#[derive(Clone, Copy)]
-pub enum Verdict {
-    Accepted,
-    Refused,
-}
-
-// Each field of a header with its place, or the refusal with its place.
-pub fn fields(rt: &LibcRuntime, file: &str) -> Result<Verdict, AnyError> {
+// Each field of a header with its place, or the refusal with its place. Either is an answer: only what cannot be read is an error.
+pub fn fields(rt: &LibcRuntime, file: &str) -> Result<(), AnyError> {
     let input = fs::read(rt, file)?;
     match list(rt.alloc(), Form::Header, input.as_slice()) {
         Ok(found) => {
@@ -25,11 +19,11 @@ pub fn fields(rt: &LibcRuntime, file: &str) -> Result<Verdict, AnyError> {
             for (i, field) in found.iter().enumerate() {
                 print_field(rt, i.saturating_add(1), field)?;
             }
-            Ok(Verdict::Accepted)
+            Ok(())
         }
         Err(Unlisted::Refused(why)) => {
             print_refusal(rt, file, why)?;
-            Ok(Verdict::Refused)
+            Ok(())
         }
         Err(Unlisted::Memory) => Err("no memory".into()),
     }
