@@ -15,7 +15,7 @@ use Rattle.fields.specs.Classes.{wsp, ftext, every, front, behind}
 use Rattle.fields.specs.Lines.{onto, texts, sound, indented, blank}
 use Rattle.fields.specs.Fields.{PlacedField, field-at, continued, whole, fault, Cut, stop, Role, opens, continues, spoils, faulty, named, opening, continuing, closing, by-role, cut}
 use Rattle.fields.specs.Built.{Name, Folds, none, fold, Field-text, nothing, empty-line as rest-behind, Built, over, field, Cut-exactly}
-use Rattle.fields.proofs.Parting.{Parted, parted, texts-line, ftext-not-wsp}
+use Rattle.fields.proofs.Parting.{Parted, never-none, parted, texts-line, ftext-not-wsp}
 use Rattle.fields.proofs.Cutting.{parts-of, front-every, cut-line, opening-closes, cut-closes}
 use Rattle.fields.proofs.Opening.{role-continues, sound-parts, opened-by}
 
@@ -101,12 +101,12 @@ bytes-of (t ∷ []) = t
 bytes-of (t ∷ u ∷ us) = t ++ 13 ∷ 10 ∷ bytes-of (u ∷ us)
 
 bytes-onto : (a : ℕ) (ts : List (List ℕ)) → Parted ts → bytes-of (onto a ts) ≡ a ∷ bytes-of ts
-bytes-onto a [] p = let z : _≡_ {A = List (List ℕ)} [] (p .first ∷ p .others) = p .are in let y : _≡_ {A = ℕ} 0 1 = cc in absurd (omega arith)
+bytes-onto a [] p = absurd (never-none p)
 bytes-onto a (t ∷ []) p = refl
 bytes-onto a (t ∷ u ∷ us) p = refl
 
 bytes-line : (t : List ℕ) (ts : List (List ℕ)) → Parted ts → bytes-of (t ∷ ts) ≡ t ++ 13 ∷ 10 ∷ bytes-of ts
-bytes-line t [] p = let z : _≡_ {A = List (List ℕ)} [] (p .first ∷ p .others) = p .are in let y : _≡_ {A = ℕ} 0 1 = cc in absurd (omega arith)
+bytes-line t [] p = absurd (never-none p)
 bytes-line t (u ∷ us) p = refl
 
 pub bytes-texts : (s : List ℕ) → bytes-of (texts s) ≡ s

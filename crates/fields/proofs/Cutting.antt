@@ -15,7 +15,7 @@ use Rattle.fields.specs.Classes.{wsp, ftext, every, starts, front, behind}
 use Rattle.fields.specs.Lines.{texts, sound, indented}
 use Rattle.fields.specs.Fields.{PlacedField, field-at, Cut, fault, whole, stop, Role, opens, spoils, faulty, named, empty-line, opening, continuing, role, closing, by-role, cut}
 use Rattle.fields.proofs.Patterns.{tail, two-ahead}
-use Rattle.fields.proofs.Parting.{parted, first-starts}
+use Rattle.fields.proofs.Parting.{Parted, never-none, parted, first-starts}
 
 parts-by : (x : Bool) (b : ℕ) (u v s : List ℕ) → s ≡ u ++ v → b ∷ s ≡ cond x (b ∷ u) [] ++ cond x v (b ∷ s)
 parts-by true b u v s e = ap (λ t. b ∷ t) e
@@ -48,13 +48,14 @@ module _ (p : ℕ → Bool) where
       let x = and-parts (p b) (every p n) h in
       cond-true (p b) (behind p (n ++ t)) (b ∷ n ++ t) (x .0) ∙ behind-is n t (x .1) k
 
--- a line is followed by other texts
-pub cut-line : (form : Form) (before : Option PlacedField) (at : ℕ) (t s : List ℕ) → cut form before at (t ∷ texts s) ≡ by-role before at (λ f. cut form (Some f) (at + length t + 2) (texts s)) (role form before at t)
+-- a line, before other texts
+pub cut-cons : (form : Form) (before : Option PlacedField) (at : ℕ) (t : List ℕ) (ts : List (List ℕ)) → Parted ts → cut form before at (t ∷ ts) ≡ by-role before at (λ f. cut form (Some f) (at + length t + 2) ts) (role form before at t)
 unfolding cut
-cut-line form before at t s =
-    let P : List (List ℕ) → Type 0 = λ ts. cut form before at (t ∷ ts) ≡ by-role before at (λ f. cut form (Some f) (at + length t + 2) ts) (role form before at t) in
-    let p = parted s in
-    subst P (sym (p .are)) refl
+cut-cons form before at t [] p = absurd (never-none p)
+cut-cons form before at t (u ∷ us) p = refl
+
+pub cut-line : (form : Form) (before : Option PlacedField) (at : ℕ) (t s : List ℕ) → cut form before at (t ∷ texts s) ≡ by-role before at (λ f. cut form (Some f) (at + length t + 2) (texts s)) (role form before at t)
+cut-line form before at t s = cut-cons form before at t (texts s) (parted s)
 
 -- no bytes
 pub cut-none : (form : Form) (at : ℕ) (s : List ℕ) → length s < 1 → cut form None at (texts s) ≡ stop whole

@@ -19,7 +19,7 @@ use Rattle.fields.specs.Scans.{at-crlf, line-end}
 pub plain-cr : (b : ℕ) → plain b ≡ true → eqb b 13 ≡ false
 plain-cr b e = let x = or-parts (eqb b 0) (eqb b 10 || eqb b 13) (not-true _ e) in or-parts (eqb b 10) (eqb b 13) (x .1) .1
 
-plain-from : (b : ℕ) → (b ≡ 0 → ⊥) → (b ≡ 10 → ⊥) → (b ≡ 13 → ⊥) → plain b ≡ true
+pub plain-from : (b : ℕ) → (b ≡ 0 → ⊥) → (b ≡ 10 → ⊥) → (b ≡ 13 → ⊥) → plain b ≡ true
 plain-from b nul lf cr = rw (ne-eqb b 0 nul, ne-eqb b 10 lf, ne-eqb b 13 cr) refl
 
 ftext-from : (b : ℕ) → ftext b ≡ true → 33 ≤ b
@@ -48,6 +48,9 @@ pub record Parted (ts : List (List ℕ)) : Type 0 where
   pub first : List ℕ
   pub others : List (List ℕ)
   pub are : ts ≡ first ∷ others
+
+pub never-none : Parted [] → ⊥
+never-none p = let some : _≡_ {A = List (List ℕ)} [] (p .first ∷ p .others) = p .are in let z : _≡_ {A = ℕ} 0 1 = cc in omega arith
 
 onto-parted : (a : ℕ) (ts : List (List ℕ)) → Parted ts → Parted (onto a ts)
 onto-parted a ts p = record { first = a ∷ p .first; others = p .others; are = ap (onto a) (p .are) }

@@ -10,6 +10,7 @@ use Rattle.std.proofs.shelf.Tests.{cond-true, cond-false, ne-eqb}
 use Rattle.fields.specs.Classes.{wsp, plain, behind}
 use Rattle.fields.specs.Scans.{at-crlf, crlf-here, line-end, past-colon, fold-start}
 use Rattle.fields.proofs.Patterns.{tail, one-ahead, three-ahead}
+use Rattle.fields.proofs.Parting.{plain-from, no-crlf}
 
 module _ (p : ℕ → Bool) where
   pub behind-more : (s : List ℕ) → 1 ≤ length s → p (getD s 0 0) ≡ true → behind p s ≡ behind p (tail 1 s)
@@ -18,11 +19,6 @@ module _ (p : ℕ → Bool) where
   pub behind-none : (s : List ℕ) → length s < 1 → behind p s ≡ s
   behind-none [] h = refl
   behind-none (a ∷ s) h = absurd (omega arith)
-
--- a byte other than CR begins no CRLF
-crlf-not : (b : ℕ) (s : List ℕ) → (b ≡ 13 → ⊥) → at-crlf (b ∷ s) ≡ false
-crlf-not b [] h = refl
-crlf-not b (a ∷ s) h = rw (ne-eqb b 13 h) refl
 
 -- at a CR, either the CRLF is there or there is no line
 end-here : (k b : ℕ) (s : List ℕ) → b ≡ 13 → line-end k (b ∷ s) ≡ crlf-here (b ∷ s)
@@ -33,13 +29,13 @@ pub line-here : (k : ℕ) (s : List ℕ) → 1 ≤ length s → getD s 0 0 ≡ 1
 line-here k s h e = ap (line-end k) (one-ahead s h) ∙ end-here k (getD s 0 0) (tail 1 s) e ∙ ap crlf-here (sym (one-ahead s h))
 
 line-on : (k b : ℕ) (s : List ℕ) → (b ≡ 13 → ⊥) → plain b ≡ true → line-end (suc k) (b ∷ s) ≡ line-end k s
-line-on k b s h e = cond-false (at-crlf (b ∷ s)) (Some (b ∷ s)) _ (crlf-not b s h) ∙ cond-true (plain b) (line-end k s) None e
+line-on k b s h e = cond-false (at-crlf (b ∷ s)) (Some (b ∷ s)) _ (no-crlf b s (ne-eqb b 13 h)) ∙ cond-true (plain b) (line-end k s) None e
 
 pub line-more : (k : ℕ) (s : List ℕ) → 1 ≤ length s → (getD s 0 0 ≡ 13 → ⊥) → (getD s 0 0 ≡ 10 → ⊥) → (getD s 0 0 ≡ 0 → ⊥) → (k ≡ 0 → ⊥) → line-end k s ≡ line-end (k - 1) (tail 1 s)
 line-more zero s h cr lf nul z = absurd (z refl)
 line-more (suc k) s h cr lf nul z =
     let same : suc k - 1 ≡ k = omega arith in
-    let fine : plain (getD s 0 0) ≡ true = rw (ne-eqb (getD s 0 0) 13 cr, ne-eqb (getD s 0 0) 10 lf, ne-eqb (getD s 0 0) 0 nul) refl in
+    let fine = plain-from (getD s 0 0) nul lf cr in
     ap (line-end (suc k)) (one-ahead s h) ∙ line-on k (getD s 0 0) (tail 1 s) cr fine ∙ ap (λ j. line-end j (tail 1 s)) (sym same)
 
 pub line-none : (k : ℕ) (s : List ℕ) → length s < 1 → line-end k s ≡ None

@@ -17,6 +17,7 @@ use Rattle.fields.specs.Fields.{PlacedField, whole, fault, Cut, stop, Role, op
 use Rattle.fields.specs.Scans.{at-crlf}
 use Rattle.fields.specs.Built.{Built, Input-up-to}
 use Rattle.fields.proofs.Parting.{Parted, parted, texts-on}
+use Rattle.fields.proofs.Cutting.{cut-cons}
 use Rattle.fields.proofs.Building.{fault-whole, bytes-of, bytes-texts, cut-exactly}
 
 -- a first line, and what stands behind it
@@ -105,12 +106,6 @@ record Stops-at (form : Form) (before : Option PlacedField) (at : ℕ) (ts : Lis
   closes : cut form before at (ls ++ [] ∷ []) .ending ≡ whole
   never : (us : List (List ℕ)) → Alike (next ∷ others) us → cut form before at (ls ++ us) .ending ≡ fault b
 
--- a line more, in front of some texts
-cut-cons : (form : Form) (before : Option PlacedField) (at : ℕ) (t : List ℕ) (ts : List (List ℕ)) → Parted ts → cut form before at (t ∷ ts) ≡ by-role before at (λ f. cut form (Some f) (at + length t + 2) ts) (role form before at t)
-unfolding cut
-cut-cons form before at t [] p = let z : _≡_ {A = List (List ℕ)} [] (p .first ∷ p .others) = p .are in let y : _≡_ {A = ℕ} 0 1 = cc in absurd (omega arith)
-cut-cons form before at t (u ∷ us) p = refl
-
 closing-ending : (before : Option PlacedField) (c : Cut) → closing before c .ending ≡ c .ending
 closing-ending None c = refl
 closing-ending (Some f) c = refl
@@ -149,20 +144,17 @@ module _ (form : Form) (before : Option PlacedField) (at b : ℕ) (t u : List �
         place-is = omega arith;
         something = λ _ o. let z : _≡_ {A = ℕ} 0 1 = cc in omega arith;
         closes = ends-whole form before at;
-        never = λ vs a. stays vs a ∙ q;
+        never = λ vs a. stays a ∙ q;
       }
     where
-      stays : (vs : List (List ℕ)) → Alike (t ∷ u ∷ us) vs → cut form before at vs .ending ≡ fault at
-      stays vs a = by-alike a
-        where
-          by-alike : {ws : List (List ℕ)} → Alike (t ∷ u ∷ us) ws → cut form before at ws .ending ≡ fault at
-          by-alike (cut-short {c = c} {w = w}) = ends-short form before at c w
-          by-alike (same-line {t = t′} {z = z} {zs = zs} p) =
-              let line : t ≡ t′ = cc in
-              let on : PlacedField → Cut = λ f. cut form (Some f) (at + length t′ + 2) (z ∷ zs) in
-              ap (λ x. x .ending) (cut-cons form before at t′ (z ∷ zs) (record { first = z; others = zs; are = refl }))
-              ∙ ap (λ x. by-role before at on x .ending) (ap (role form before at) (sym line) ∙ e)
-              ∙ h on
+      stays : {vs : List (List ℕ)} → Alike (t ∷ u ∷ us) vs → cut form before at vs .ending ≡ fault at
+      stays (cut-short {c = c} {w = w}) = ends-short form before at c w
+      stays (same-line {t = t′} {z = z} {zs = zs} p) =
+          let line : t ≡ t′ = cc in
+          let on : PlacedField → Cut = λ f. cut form (Some f) (at + length t′ + 2) (z ∷ zs) in
+          ap (λ x. x .ending) (cut-cons form before at t′ (z ∷ zs) (record { first = z; others = zs; are = refl }))
+          ∙ ap (λ x. by-role before at on x .ending) (ap (role form before at) (sym line) ∙ e)
+          ∙ h on
 
   -- the first line goes on with the field f
   stops-later : (r : Role) (f : PlacedField) → role form before at t ≡ r → ((on : PlacedField → Cut) → by-role before at on r .ending ≡ on f .ending) → Stops-at form (Some f) (at + length t + 2) (u ∷ us) b → Stops-at form before at (t ∷ u ∷ us) b
