@@ -44,7 +44,7 @@ def declared(path):
         if not m or "-" not in m.group(5).strip("-"):
             continue
         # what an answer file declares at its top is a goal, whose name the check made
-        if goals and not m.group(1) and m.group(3):
+        if goals and not m.group(1) and "pub " in (m.group(2) or "") + (m.group(3) or ""):
             continue
         names.add(m.group(5))
         if in_record and m.group(1):

@@ -6,12 +6,12 @@ use Rattle.equality.proofs.Counting.{classes, distinct_few, count_more, count_ov
 use Rattle.equality.proofs.Numbers.{one_number}
 use Rattle.equality.proofs.distinct.Goals as goal
 
-pub overflow_add_count : goal.overflow-add-count
-overflow_add_count c =
+pub overflow-add-count : goal.overflow-add-count
+overflow-add-count c =
     omega (arith, count_more c.loop-next.count c.counts-count.result _ _ (listing c.args.list) (addr c.in-Some.next.address) c.loop-next.invariant c.in-Some.ensures c.counts-count.ensures, distinct_few (listing c.args.list), addresses_few c.args.list.text.now, c.ranges.list.0)
 
-pub loop_next_preserved : goal.loop-next-preserved
-loop_next_preserved c = count_more c.loop-next.count c.counts-count.result _ _ (listing c.args.list) (addr c.in-Some.next.address) c.loop-next.invariant c.in-Some.ensures c.counts-count.ensures
+pub loop-next-preserved : goal.loop-next-preserved
+loop-next-preserved c = count_more c.loop-next.count c.counts-count.result _ _ (listing c.args.list) (addr c.in-Some.next.address) c.loop-next.invariant c.in-Some.ensures c.counts-count.ensures
 
 pub returns : goal.returns
 returns c =

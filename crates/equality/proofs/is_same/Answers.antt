@@ -6,10 +6,10 @@ use Rattle.equality.proofs.Laws.{same_by, same_not}
 use Rattle.equality.proofs.is_same.Goals as goal
 use Rattle.std.proofs.lemmas.Bool.Decides.{Decides-eqb}
 
-pub returns_then_eq : goal.returns-then-eq
-returns_then_eq c =
+pub returns-then-eq : goal.returns-then-eq
+returns-then-eq c =
     c.is-alike.ensures ∙ same_by (addr c.args.a) (addr c.args.b) ((slice_eq-Decides Decides-eqb c.args.a.local.now c.args.b.local.now c.eq.result c.eq.ensures).0 c.if-eq.true)
 
-pub returns_else_eq : goal.returns-else-eq
-returns_else_eq c =
+pub returns-else-eq : goal.returns-else-eq
+returns-else-eq c =
     c.if-eq.false ∙ same_not (addr c.args.a) (addr c.args.b) (λ e. both_ways c.eq.result c.if-eq.false ((slice_eq-Decides Decides-eqb c.args.a.local.now c.args.b.local.now c.eq.result c.eq.ensures).1 e))

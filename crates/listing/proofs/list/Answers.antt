@@ -5,15 +5,15 @@ use Rattle.listing.specs.Kept.{roomy}
 use Rattle.listing.proofs.Keeping.{list_is, refusal_is, listed_exactly}
 use Rattle.listing.proofs.list.Goals as goal
 
-pub returns_in_err_with_capacity : goal.returns-in-err-with-capacity
-returns_in_err_with_capacity c =
+pub returns-in-err-with-capacity : goal.returns-in-err-with-capacity
+returns-in-err-with-capacity c =
     record {
       holds = let p = err_from_is_err_and c.from-residual.result c.from-residual.ensures.1 in rw (p.1, p.2) tt;
       exactly = listed_exactly c.args.form c.args.input.now;
     }
 
-pub returns_in_err_fields : goal.returns-in-err-fields
-returns_in_err_fields c =
+pub returns-in-err-fields : goal.returns-in-err-fields
+returns-in-err-fields c =
     let empty = c.in-ok-with-capacity.field-0 in
     let made = c.in-ok-with-capacity.ensures in
     record {

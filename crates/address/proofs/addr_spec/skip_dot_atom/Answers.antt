@@ -5,22 +5,22 @@ use Rattle.address.specs.Reads.{dotted, dot_atom_rest}
 use Rattle.address.specs.Dots.{dots_start, no_dots, past_dot, last_dot}
 use Rattle.address.proofs.addr_spec.skip_dot_atom.Goals as goal
 
-pub returns_in_err_rest : goal.returns-in-err-rest
-returns_in_err_rest c = ap (option_map (λ x. x.now)) c.from-residual.ensures ∙ no_dots c.args.s.now (sym c.in-err-rest.ensures)
+pub returns-in-err-rest : goal.returns-in-err-rest
+returns-in-err-rest c = ap (option_map (λ x. x.now)) c.from-residual.ensures ∙ no_dots c.args.s.now (sym c.in-err-rest.ensures)
 
-pub loop_rest_init : goal.loop-rest-init
-loop_rest_init c = dots_start c.args.s.now c.in-ok-rest.rest.now (sym c.in-ok-rest.ensures)
+pub loop-rest-init : goal.loop-rest-init
+loop-rest-init c = dots_start c.args.s.now c.in-ok-rest.rest.now (sym c.in-ok-rest.ensures)
 
 turned : (c : goal.In-ok-rest-2) → Turned dotted c.loop-rest.rest.now c.in-ok-rest-2.rest.now (dot_atom_rest c.args.s.now)
 turned c = past_dot _ c.loop-rest.rest.now c.loop-rest.invariant (omega (arith, ltb-false)) (omega (arith, tests)) c.in-ok-rest-2.rest.now (sym c.in-ok-rest-2.ensures)
 
-pub returns_in_err_rest_2 : goal.returns-in-err-rest-2
-returns_in_err_rest_2 c =
+pub returns-in-err-rest-2 : goal.returns-in-err-rest-2
+returns-in-err-rest-2 c =
     ap (option_map (λ x. x.now)) c.from-residual-in-err-rest-2.ensures
     ∙ last_dot _ c.loop-rest.rest.now c.loop-rest.invariant (omega (arith, ltb-false)) (omega (arith, tests)) (sym c.in-err-rest-2.ensures)
 
-pub loop_rest_smaller : goal.loop-rest-smaller
-loop_rest_smaller c = (turned c).less
+pub loop-rest-smaller : goal.loop-rest-smaller
+loop-rest-smaller c = (turned c).less
 
-pub loop_rest_preserved : goal.loop-rest-preserved
-loop_rest_preserved c = (turned c).goes
+pub loop-rest-preserved : goal.loop-rest-preserved
+loop-rest-preserved c = (turned c).goes

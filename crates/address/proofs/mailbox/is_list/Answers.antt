@@ -4,19 +4,19 @@ use Rattle.address.specs.Seen.{found}
 use Rattle.address.proofs.Lists.{Counting, counting_starts, too_many, one_counted}
 use Rattle.address.proofs.mailbox.is_list.Goals as goal
 
-pub loop_found_init : goal.loop-found-init
-loop_found_init c = counting_starts c.args.body.now
+pub loop-found-init : goal.loop-found-init
+loop-found-init c = counting_starts c.args.body.now
 
-pub returns_then_count_eq_MOST_ADDRESSES : goal.returns-then-count-eq-MOST-ADDRESSES
-returns_then_count_eq_MOST_ADDRESSES c =
+pub returns-then-count-eq-MOST-ADDRESSES : goal.returns-then-count-eq-MOST-ADDRESSES
+returns-then-count-eq-MOST-ADDRESSES c =
     too_many _ c.loop-found.rest.now c.loop-found.count c.loop-found.invariant (found c.in-Some.found) (sym c.in-Some.ensures) c.in-Some-skip-byte.next.now (sym c.in-Some-skip-byte.ensures) c.if-count-eq-MOST-ADDRESSES.true
 
 next : (c : goal.Else-count-eq-MOST-ADDRESSES) → (length c.in-Some-skip-byte.next.now < length c.loop-found.rest.now) × Counting c.in-Some-skip-byte.next.now (c.loop-found.count + 1) (is_some (mailbox_list_of c.args.body.now))
 next c =
     one_counted _ c.loop-found.rest.now c.loop-found.count c.loop-found.invariant (found c.in-Some.found) (sym c.in-Some.ensures) c.in-Some-skip-byte.next.now (sym c.in-Some-skip-byte.ensures) c.if-count-eq-MOST-ADDRESSES.false
 
-pub loop_found_smaller : goal.loop-found-smaller
-loop_found_smaller c = (next c).0
+pub loop-found-smaller : goal.loop-found-smaller
+loop-found-smaller c = (next c).0
 
-pub loop_found_preserved : goal.loop-found-preserved
-loop_found_preserved c = (next c).1
+pub loop-found-preserved : goal.loop-found-preserved
+loop-found-preserved c = (next c).1

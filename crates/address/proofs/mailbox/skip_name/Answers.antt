@@ -5,17 +5,17 @@ use Rattle.address.specs.Reads.{name_words, name_rest}
 use Rattle.address.proofs.Names.{name_starts, no_name, past_word}
 use Rattle.address.proofs.mailbox.skip_name.Goals as goal
 
-pub returns_in_err_rest : goal.returns-in-err-rest
-returns_in_err_rest c = ap (option_map (λ x. x.now)) c.from-residual.ensures ∙ no_name c.args.s.now (sym c.in-err-rest.ensures.leaves)
+pub returns-in-err-rest : goal.returns-in-err-rest
+returns-in-err-rest c = ap (option_map (λ x. x.now)) c.from-residual.ensures ∙ no_name c.args.s.now (sym c.in-err-rest.ensures.leaves)
 
-pub loop_rest_init : goal.loop-rest-init
-loop_rest_init c = name_starts c.args.s.now c.in-ok-rest.rest.now (sym c.in-ok-rest.ensures.leaves)
+pub loop-rest-init : goal.loop-rest-init
+loop-rest-init c = name_starts c.args.s.now c.in-ok-rest.rest.now (sym c.in-ok-rest.ensures.leaves)
 
 turned : (c : goal.In-ok-rest-2) → Turned name_words c.loop-rest.rest.now c.in-ok-rest-2.rest.now (name_rest c.args.s.now)
 turned c = past_word _ c.loop-rest.rest.now c.loop-rest.invariant (omega (arith, ltb-false)) (sym c.if-holds.ensures) c.in-ok-read.field-0.now c.in-ok-rest-2.rest.now (sym c.in-ok-read.ensures) (sym c.in-ok-rest-2.ensures.leaves)
 
-pub loop_rest_smaller : goal.loop-rest-smaller
-loop_rest_smaller c = (turned c).less
+pub loop-rest-smaller : goal.loop-rest-smaller
+loop-rest-smaller c = (turned c).less
 
-pub loop_rest_preserved : goal.loop-rest-preserved
-loop_rest_preserved c = (turned c).goes
+pub loop-rest-preserved : goal.loop-rest-preserved
+loop-rest-preserved c = (turned c).goes

@@ -7,41 +7,41 @@ use Rattle.fields.proofs.Accepting.{walk_exactly}
 use Rattle.fields.proofs.Cleaning.{fields_clean}
 use Rattle.fields.proofs.walk.walk.Goals as goal
 
-pub returns_then_input_gt_LONGEST_INPUT : goal.returns-then-input-gt-LONGEST-INPUT
-returns_then_input_gt_LONGEST_INPUT g c =
+pub returns-then-input-gt-LONGEST-INPUT : goal.returns-then-input-gt-LONGEST-INPUT
+returns-then-input-gt-LONGEST-INPUT g c =
     let C = g.C.Collector in
     let is = too_long C.step (C.state c.args.collector) c.args.form c.args.input.now (omega arith) in
     record { walks = is; exactly = walk_exactly C.step (C.state c.args.collector) c.args.form c.args.input.now _ is; clean = fields_clean c.args.form c.args.input.now }
 
-pub returns_in_End : goal.returns-in-End
-returns_in_End g c =
+pub returns-in-End : goal.returns-in-End
+returns-in-End g c =
     let C = g.C.Collector in
     let is = ends_whole C.step (C.state c.args.collector) c.args.form c.args.input.now c.loop-collector.field (C.state c.loop-collector.collector) c.loop-collector.rest.at c.loop-collector.rest.text.now c.loop-collector.invariant (omega arith) c.in-End.ensures.found in
     record { walks = is; exactly = walk_exactly C.step (C.state c.args.collector) c.args.form c.args.input.now _ is; clean = fields_clean c.args.form c.args.input.now }
 
-pub returns_in_Fault : goal.returns-in-Fault
-returns_in_Fault g c =
+pub returns-in-Fault : goal.returns-in-Fault
+returns-in-Fault g c =
     let C = g.C.Collector in
     let is = ends_at_fault C.step (C.state c.args.collector) c.args.form c.args.input.now c.loop-collector.field (C.state c.loop-collector.collector) c.loop-collector.rest.at c.loop-collector.rest.text.now c.loop-collector.invariant (omega arith) c.in-Fault.byte c.in-Fault.ensures.found in
     record { walks = is; exactly = walk_exactly C.step (C.state c.args.collector) c.args.form c.args.input.now _ is; clean = fields_clean c.args.form c.args.input.now }
 
-pub returns_then_field_gt_MOST_FIELDS : goal.returns-then-field-gt-MOST-FIELDS
-returns_then_field_gt_MOST_FIELDS g c =
+pub returns-then-field-gt-MOST-FIELDS : goal.returns-then-field-gt-MOST-FIELDS
+returns-then-field-gt-MOST-FIELDS g c =
     let C = g.C.Collector in
     let is = ends_crowded C.step (C.state c.args.collector) c.args.form c.args.input.now c.loop-collector.field (C.state c.loop-collector.collector) c.loop-collector.rest.at c.loop-collector.rest.text.now c.loop-collector.invariant (placed_field c.in-First.told) (cut c.args.form None c.in-First.behind.at (texts c.in-First.behind.text.now)) c.in-First.ensures.found (omega arith) (omega arith) in
     record { walks = is; exactly = walk_exactly C.step (C.state c.args.collector) c.args.form c.args.input.now _ is; clean = fields_clean c.args.form c.args.input.now }
 
-pub returns_in_Err : goal.returns-in-Err
-returns_in_Err g c =
+pub returns-in-Err : goal.returns-in-Err
+returns-in-Err g c =
     let C = g.C.Collector in
     let is = ends_objected C.step (C.state c.args.collector) c.args.form c.args.input.now c.loop-collector.field (C.state c.loop-collector.collector) c.loop-collector.rest.at c.loop-collector.rest.text.now c.loop-collector.invariant (placed_field c.in-First.told) (cut c.args.form None c.in-First.behind.at (texts c.in-First.behind.text.now)) c.in-First.ensures.found (omega arith) (omega arith) c.in-Err.why c.in-Err.ensures in
     record { walks = is; exactly = walk_exactly C.step (C.state c.args.collector) c.args.form c.args.input.now _ is; clean = fields_clean c.args.form c.args.input.now }
 
-pub loop_collector_init : goal.loop-collector-init
-loop_collector_init g c = let C = g.C.Collector in comes_first C.step (C.state c.args.collector) c.args.form c.args.input.now
+pub loop-collector-init : goal.loop-collector-init
+loop-collector-init g c = let C = g.C.Collector in comes_first C.step (C.state c.args.collector) c.args.form c.args.input.now
 
-pub loop_collector_preserved : goal.loop-collector-preserved
-loop_collector_preserved g c =
+pub loop-collector-preserved : goal.loop-collector-preserved
+loop-collector-preserved g c =
     let C = g.C.Collector in
     let ahead = c.in-First.ensures.ahead in
     comes_on C.step (C.state c.args.collector) c.args.form c.args.input.now c.loop-collector.field (C.state c.loop-collector.collector) c.loop-collector.rest.at c.loop-collector.rest.text.now c.loop-collector.invariant (placed_field c.in-First.told) c.in-First.behind.at c.in-First.behind.text.now c.in-First.ensures.found ahead.1 (omega arith) (C.state c.take.new.self) c.in-default.ensures

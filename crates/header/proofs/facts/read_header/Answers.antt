@@ -4,8 +4,8 @@ use Rattle.header.proofs.Telling.{says_exactly, said_ok, said_no}
 use Rattle.header.proofs.Agreement.{agrees_means}
 use Rattle.header.proofs.facts.read_header.Goals as goal
 
-pub returns_in_err_collecting : goal.returns-in-err-collecting
-returns_in_err_collecting c =
+pub returns-in-err-collecting : goal.returns-in-err-collecting
+returns-in-err-collecting c =
     let p = err_from_is_err_and c.from-residual.result c.from-residual.ensures.1 in
     let e = said_no (collected c.new.result) c.args.input.now c.in-err-collecting.field-0.0 c.new.ensures c.in-err-collecting.ensures.walks in
     rw (p.1, p.2) (record { answers = e; exactly = says_exactly c.args.input.now _ e; agreement = agrees_means })

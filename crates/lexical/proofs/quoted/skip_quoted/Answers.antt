@@ -10,14 +10,14 @@ use Rattle.lexical.specs.Quoting.{quoted_run}
 use Rattle.lexical.proofs.quoted.skip_quoted.Goals as goal
 use Rattle.lexical.proofs.quoted.skip_quoted.Goals.{in-92+in-ok-next, in-default-b}
 
-pub loop_rest_init : goal.loop-rest-init
-loop_rest_init c = subst (λ r. Going (content 34 qtext no_comment) r (quoted_rest c.args.s.now)) (sym c.skip-fws-rest.ensures) (quoted_run c.args.s.now)
+pub loop-rest-init : goal.loop-rest-init
+loop-rest-init c = subst (λ r. Going (content 34 qtext no_comment) r (quoted_rest c.args.s.now)) (sym c.skip-fws-rest.ensures) (quoted_run c.args.s.now)
 
-pub returns_in_34 : goal.returns-in-34
-returns_in_34 c = closed 34 qtext no_comment _ c.loop-rest.rest.now c.loop-rest.invariant (omega (arith, ltb-false)) (eq-eqb _ _ (omega (arith, tests)))
+pub returns-in-34 : goal.returns-in-34
+returns-in-34 c = closed 34 qtext no_comment _ c.loop-rest.rest.now c.loop-rest.invariant (omega (arith, ltb-false)) (eq-eqb _ _ (omega (arith, tests)))
 
-pub returns_in_err_next : goal.returns-in-err-next
-returns_in_err_next c =
+pub returns-in-err-next : goal.returns-in-err-next
+returns-in-err-next c =
     ap (option_map (λ x. x.now)) c.from-residual.ensures
     ∙ stop_pair 34 qtext no_comment _ c.loop-rest.rest.now c.loop-rest.invariant (omega (arith, ltb-false)) refl refl c.in-92.is (sym c.in-err-next.ensures)
 
@@ -32,8 +32,8 @@ turned c =
       | in-default-b w ↦ let e = sym w.if-holds.ensures in subst (λ u. Turned (content 34 qtext no_comment) s u whole) (sym (left ∙ ap (λ r. fws r.now) w.next-is)) (past_plain 34 qtext no_comment whole s c.loop-rest.invariant some (differs qtext 34 (get_or s 0 0) refl e) e)
     ]
 
-pub loop_rest_smaller : goal.loop-rest-smaller
-loop_rest_smaller c = (turned c).less
+pub loop-rest-smaller : goal.loop-rest-smaller
+loop-rest-smaller c = (turned c).less
 
-pub loop_rest_preserved : goal.loop-rest-preserved
-loop_rest_preserved c = (turned c).goes
+pub loop-rest-preserved : goal.loop-rest-preserved
+loop-rest-preserved c = (turned c).goes

@@ -10,16 +10,16 @@ use Rattle.lexical.specs.Comments.{comment_starts, comment_shortens}
 use Rattle.lexical.proofs.white.+comment.Goals as goal
 use Rattle.lexical.proofs.white.+comment.Goals.{in-40+in-ok-next, in-92+in-ok-next-2, in-default-b}
 
-pub loop_rest_init : goal.loop-rest-init
-loop_rest_init t c =
+pub loop-rest-init : goal.loop-rest-init
+loop-rest-init t c =
     subst (λ r. Going (content 41 ctext (comment_rest (c.args.depth - 1))) r (comment_rest c.args.depth c.args.s.now)) (sym c.skip-fws-rest.ensures)
     (comment_starts c.args.depth c.args.s.now (omega arith))
 
-pub returns_in_41 : goal.returns-in-41
-returns_in_41 t c = closed 41 ctext _ _ c.loop-rest.rest.now c.loop-rest.invariant (omega (arith, ltb-false)) (eq-eqb _ _ (omega (arith, tests)))
+pub returns-in-41 : goal.returns-in-41
+returns-in-41 t c = closed 41 ctext _ _ c.loop-rest.rest.now c.loop-rest.invariant (omega (arith, ltb-false)) (eq-eqb _ _ (omega (arith, tests)))
 
-pub returns_in_err_next : goal.returns-in-err-next
-returns_in_err_next t c =
+pub returns-in-err-next : goal.returns-in-err-next
+returns-in-err-next t c =
     ap (option_map (λ x. x.now)) c.from-residual.ensures
     ∙ stop_inner 41 ctext _ _ c.loop-rest.rest.now c.loop-rest.invariant (omega (arith, ltb-false)) refl refl c.in-40.is (sym c.in-err-next.ensures)
 
@@ -36,8 +36,8 @@ turned t c =
       | in-default-b w ↦ let e = sym w.if-holds.ensures in subst (λ u. Turned (content 41 ctext inner) s u whole) (sym (left ∙ ap (λ r. fws r.now) w.next-is)) (past_plain 41 ctext inner whole s c.loop-rest.invariant some (differs ctext 41 (get_or s 0 0) refl e) e)
     ]
 
-pub loop_rest_smaller : goal.loop-rest-smaller
-loop_rest_smaller t c = (turned t c).less
+pub loop-rest-smaller : goal.loop-rest-smaller
+loop-rest-smaller t c = (turned t c).less
 
-pub loop_rest_preserved : goal.loop-rest-preserved
-loop_rest_preserved t c = (turned t c).goes
+pub loop-rest-preserved : goal.loop-rest-preserved
+loop-rest-preserved t c = (turned t c).goes

@@ -5,11 +5,11 @@ use Rattle.mime.specs.Seen.{text, read}
 use Rattle.mime.proofs.Grammar.{no_attribute, no_value, parameter_found}
 use Rattle.mime.proofs.content.read_parameter.Goals as goal
 
-pub returns_in_err_attribute : goal.returns-in-err-attribute
-returns_in_err_attribute c = ap (option_map read) c.from-residual.ensures ∙ no_attribute c.args.s.now (sym c.in-err-attribute.ensures)
+pub returns-in-err-attribute : goal.returns-in-err-attribute
+returns-in-err-attribute c = ap (option_map read) c.from-residual.ensures ∙ no_attribute c.args.s.now (sym c.in-err-attribute.ensures)
 
-pub returns_in_err_value : goal.returns-in-err-value
-returns_in_err_value c =
+pub returns-in-err-value : goal.returns-in-err-value
+returns-in-err-value c =
     ap (option_map read) c.from-residual-in-err-value.ensures
     ∙ no_value c.args.s.now (text c.in-ok-attribute.attribute) (sym c.in-ok-attribute.ensures) (sym c.in-err-value.ensures)
 

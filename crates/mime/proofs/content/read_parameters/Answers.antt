@@ -6,11 +6,11 @@ use Rattle.mime.specs.Seen.{read}
 use Rattle.mime.proofs.Finding.{Found, finding_start, found_none, found_on}
 use Rattle.mime.proofs.content.read_parameters.Goals as goal
 
-pub loop_rest_init : goal.loop-rest-init
-loop_rest_init c = finding_start c.args.s.now
+pub loop-rest-init : goal.loop-rest-init
+loop-rest-init c = finding_start c.args.s.now
 
-pub returns_in_err_p : goal.returns-in-err-p
-returns_in_err_p c =
+pub returns-in-err-p : goal.returns-in-err-p
+returns-in-err-p c =
     c.from-residual.ensures
     ∙ found_none c.loop-rest.found _ c.loop-rest.rest.now c.loop-rest.invariant (omega (arith, ltb-false)) (omega (arith, tests)) (sym c.in-err-p.ensures)
 
@@ -19,8 +19,8 @@ on c =
     subst (λ b. Found (c.loop-rest.found || b) c.loop-rest.rest.now c.in-ok-p.p.rest.now (option_map (some reports) (parameters_of c.args.s.now))) (sym c.says-notification-found.ensures)
     (found_on c.loop-rest.found _ c.loop-rest.rest.now c.loop-rest.invariant (omega (arith, ltb-false)) (omega (arith, tests)) (read c.in-ok-p.p) (sym c.in-ok-p.ensures))
 
-pub loop_rest_smaller : goal.loop-rest-smaller
-loop_rest_smaller c = (on c).less
+pub loop-rest-smaller : goal.loop-rest-smaller
+loop-rest-smaller c = (on c).less
 
-pub loop_rest_preserved : goal.loop-rest-preserved
-loop_rest_preserved c = (on c).goes
+pub loop-rest-preserved : goal.loop-rest-preserved
+loop-rest-preserved c = (on c).goes

@@ -5,11 +5,11 @@ use Rattle.mime.specs.Seen.{text}
 use Rattle.mime.proofs.Grammar.{before_none, before_other, before_found}
 use Rattle.mime.proofs.content.token_before.Goals as goal
 
-pub returns_in_err_token : goal.returns-in-err-token
-returns_in_err_token c = ap (option_map text) c.from-residual.ensures ∙ before_none c.args.b c.args.s.now (sym c.in-err-token.ensures)
+pub returns-in-err-token : goal.returns-in-err-token
+returns-in-err-token c = ap (option_map text) c.from-residual.ensures ∙ before_none c.args.b c.args.s.now (sym c.in-err-token.ensures)
 
-pub returns_in_err_rest : goal.returns-in-err-rest
-returns_in_err_rest c =
+pub returns-in-err-rest : goal.returns-in-err-rest
+returns-in-err-rest c =
     ap (option_map text) c.from-residual-in-err-rest.ensures
     ∙ before_other c.args.b c.args.s.now (taken c.in-ok-token.token) (sym c.in-ok-token.ensures) (sym c.in-err-rest.ensures)
 

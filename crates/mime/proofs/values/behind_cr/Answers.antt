@@ -3,13 +3,13 @@ use Rattle.mime.specs.Values.{at_fold}
 use Rattle.mime.proofs.Unquoting.{between_plain, between_fold}
 use Rattle.mime.proofs.values.behind_cr.Goals as goal
 
-pub returns_in_10 : goal.returns-in-10
-returns_in_10 c = record {
+pub returns-in-10 : goal.returns-in-10
+returns-in-10 c = record {
   means = between_fold c.args.tail.now (omega (arith, ltb-false)) (omega (arith, tests)) (sym c.if-holds.ensures);
   less = search rules;
 }
 
-pub returns_in_default : goal.returns-in-default
-returns_in_default c =
+pub returns-in-default : goal.returns-in-default
+returns-in-default c =
     let e : at_fold c.args.tail.now ≡ false = search rules in
     record { means = between_plain 13 c.args.tail.now refl refl e; less = omega arith }

@@ -4,21 +4,21 @@ use Rattle.options.proofs.Listing.{Telling}
 use Rattle.options.proofs.Bodies.{asked, required_in, first_parameter, next_parameter, no_next_parameter}
 use Rattle.options.proofs.body.find_required.Goals as goal
 
-pub loop_rest_init : goal.loop-rest-init
-loop_rest_init c =
+pub loop-rest-init : goal.loop-rest-init
+loop-rest-init c =
     subst (λ b. Telling 59 parameter_of (asked b) c.in-ok-first.first.rest.now (required_in c.args.body.now)) (sym c.is-required-required.ensures)
     (first_parameter c.args.body.now (marked c.in-ok-first.first) c.in-ok-first.ensures)
 
-pub returns_in_err_next : goal.returns-in-err-next
-returns_in_err_next c =
+pub returns-in-err-next : goal.returns-in-err-next
+returns-in-err-next c =
     c.from-residual-in-err-next.ensures
     ∙ no_next_parameter c.loop-rest.required (required_in c.args.body.now) c.loop-rest.rest.now c.loop-rest.invariant (omega (arith, ltb-false)) (omega (arith, tests)) c.in-err-next.ensures
 
-pub loop_rest_smaller : goal.loop-rest-smaller
-loop_rest_smaller c =
+pub loop-rest-smaller : goal.loop-rest-smaller
+loop-rest-smaller c =
     (next_parameter c.loop-rest.required (required_in c.args.body.now) c.loop-rest.rest.now c.loop-rest.invariant (omega (arith, ltb-false)) (omega (arith, tests)) (marked c.in-ok-next.next) c.in-ok-next.ensures).less
 
-pub loop_rest_preserved : goal.loop-rest-preserved
-loop_rest_preserved c =
+pub loop-rest-preserved : goal.loop-rest-preserved
+loop-rest-preserved c =
     subst (λ b. Telling 59 parameter_of (asked (c.loop-rest.required || b)) c.in-ok-next.next.rest.now (required_in c.args.body.now)) (sym c.is-required-required-in-59.ensures)
     (next_parameter c.loop-rest.required (required_in c.args.body.now) c.loop-rest.rest.now c.loop-rest.invariant (omega (arith, ltb-false)) (omega (arith, tests)) (marked c.in-ok-next.next) c.in-ok-next.ensures).goes

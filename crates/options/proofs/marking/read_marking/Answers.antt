@@ -2,17 +2,17 @@ use Rattle.std.proofs.Common.{rules}
 use Rattle.options.specs.Reads.{marking_of}
 use Rattle.options.proofs.marking.read_marking.Goals as goal
 
-pub returns_in_err_halves : goal.returns-in-err-halves
+pub returns-in-err-halves : goal.returns-in-err-halves
 unfolding marking_of
-returns_in_err_halves c = search rules
+returns-in-err-halves c = search rules
 
-pub returns_in_err_read_atom : goal.returns-in-err-read-atom
+pub returns-in-err-read-atom : goal.returns-in-err-read-atom
 unfolding marking_of
-returns_in_err_read_atom c = search rules
+returns-in-err-read-atom c = search rules
 
-pub returns_in_err_read_atom_2 : goal.returns-in-err-read-atom-2
+pub returns-in-err-read-atom-2 : goal.returns-in-err-read-atom-2
 unfolding marking_of
-returns_in_err_read_atom_2 c = search rules
+returns-in-err-read-atom-2 c = search rules
 
 pub returns : goal.returns
 unfolding marking_of

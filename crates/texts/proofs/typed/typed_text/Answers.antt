@@ -2,21 +2,21 @@ use Rattle.std.proofs.Common.{rules}
 use Rattle.texts.specs.Reads.{typed_of}
 use Rattle.texts.proofs.typed.typed_text.Goals as goal
 
-pub returns_in_err_kind : goal.returns-in-err-kind
+pub returns-in-err-kind : goal.returns-in-err-kind
 unfolding typed_of
-returns_in_err_kind c = search rules
+returns-in-err-kind c = search rules
 
-pub returns_in_err_skip_byte : goal.returns-in-err-skip-byte
+pub returns-in-err-skip-byte : goal.returns-in-err-skip-byte
 unfolding typed_of
-returns_in_err_skip_byte c = search rules
+returns-in-err-skip-byte c = search rules
 
-pub returns_in_err_rest : goal.returns-in-err-rest
+pub returns-in-err-rest : goal.returns-in-err-rest
 unfolding typed_of
-returns_in_err_rest c = search rules
+returns-in-err-rest c = search rules
 
-pub returns_in_err_text : goal.returns-in-err-text
+pub returns-in-err-text : goal.returns-in-err-text
 unfolding typed_of
-returns_in_err_text c = search rules
+returns-in-err-text c = search rules
 
 pub returns : goal.returns
 unfolding typed_of
