@@ -52,6 +52,16 @@ def declared(path):
     return names, fields
 
 
+def foreign(text):
+    """The names that a file takes from the kit: they keep theirs."""
+    names = set()
+    for m in re.finditer(r"use ((?:\w|\.)+)\.\{([^}]*)\}", text):
+        parts = m.group(1).split(".")
+        if not (parts[0] == "Rattle" and len(parts) > 1 and os.path.isdir(os.path.join("crates", parts[1]))):
+            names |= {n.strip().split(" ")[0] for n in m.group(2).split(",")}
+    return names
+
+
 def respelled(name):
     if not name[0].isupper():
         return name.replace("-", "_")
@@ -86,15 +96,16 @@ def main():
         text = open(path, encoding="utf-8").read()
         mark = "--" if path.endswith(".antt") else "//"
         code = "".join(l[: comment_at(l, mark)] + "\n" for l in text.splitlines())
+        own = names - foreign(text)
         there = set(TOKEN.findall(code))
         # a part of a path is no name of its own, and a function of src/ may have the name of what it answers
         alone = {m.group() for m in TOKEN.finditer(code) if "." not in (code[m.start() - 1 : m.start()], code[m.end() : m.end() + 1])}
-        for name in there & names:
+        for name in there & own:
             other = respelled(name)
             if other in alone and not re.search(rf"\bfn {re.escape(other)}\b", code):
                 print(f"{path}: {name} and {other} fall together")
                 clash += 1
-        new[path] = turned(text, mark, names, fields)
+        new[path] = turned(text, mark, own, fields)
     both = {}
     for name in names:
         both.setdefault(respelled(name), []).append(name)
