@@ -1,6 +1,6 @@
 -- A run of one class leaves what the rule leaves.
 use Rattle.std.proofs.Common.{◌≡◌, ℕ, suc, ◌<◌, ◌≤◌, Bool, true, false, eqb, List, [], ◌∷◌, length, get_or, Some, None, Option, sym, refl, ap, ◌∙◌, subst, arith}
-use Rattle.std.proofs.lemmas.Bool.{cond_both, cond_true, cond_false, eqb-true, eq-eqb}
+use Rattle.std.proofs.lemmas.Bool.{cond_both, cond-true, cond-false, eqb-true, eq-eqb}
 use Rattle.fields.specs.Classes.{behind}
 use Rattle.fields.proofs.Patterns.{tail, one_ahead}
 use Rattle.abnf.specs.Abnf.{plus, byte, one, At}
@@ -49,7 +49,7 @@ module _ (p : ℕ → Bool) where
       e
 
   pub one_complete : (s t : List ℕ) → At (one p) s t → behind_one p s ≡ Some t
-  one_complete s t h = let d = one_out h in ap (behind_one p) d.1 ∙ cond_true (p d.0) (Some t) None d.2
+  one_complete s t h = let d = one_out h in ap (behind_one p) d.1 ∙ cond-true (p d.0) (Some t) None d.2
 
   pub behind_sound : (s : List ℕ) → Many (one p) s (behind p s)
   behind_sound [] = no_more
@@ -63,13 +63,13 @@ module _ (p : ℕ → Bool) where
 
   pub behind_stays : (t : List ℕ) → Off p t → behind p t ≡ t
   behind_stays [] h = refl
-  behind_stays (b ∷ t) h = cond_false (p b) (behind p t) (b ∷ t) h
+  behind_stays (b ∷ t) h = cond-false (p b) (behind p t) (b ∷ t) h
 
   pub behind_complete : {s t : List ℕ} → Many (one p) s t → Off p t → behind p s ≡ t
   behind_complete {t = t} no_more h = behind_stays t h
   behind_complete (one_more {s} {m} {t} a r) h =
       let d = one_out a in
-      ap (behind p) d.1 ∙ cond_true (p d.0) (behind p m) (d.0 ∷ m) d.2 ∙ behind_complete r h
+      ap (behind p) d.1 ∙ cond-true (p d.0) (behind p m) (d.0 ∷ m) d.2 ∙ behind_complete r h
 
   pub some_sound : (s t : List ℕ) → behind_some p s ≡ Some t → At (plus (one p)) s t
   some_sound [] t e = absurd (none_some e)
@@ -83,10 +83,10 @@ module _ (p : ℕ → Bool) where
   some_complete s t h o =
       let q = seq_out h in
       let d = one_out q.1 in
-      ap (behind_some p) d.1 ∙ cond_true (p d.0) (Some (behind p q.0)) None d.2 ∙ ap Some (behind_complete (many_out q.2) o)
+      ap (behind_some p) d.1 ∙ cond-true (p d.0) (Some (behind p q.0)) None d.2 ∙ ap Some (behind_complete (many_out q.2) o)
 
 pub byte_sound : (n : ℕ) (s t : List ℕ) → behind_byte n s ≡ Some t → At (byte n) s t
 byte_sound n s t e = let d = one_out (one_sound (λ b. eqb b n) s t e) in subst (λ l. At (byte n) l t) (sym d.1) (byte_in (eqb-true d.0 n d.2))
 
 pub byte_complete : (n : ℕ) (s t : List ℕ) → At (byte n) s t → behind_byte n s ≡ Some t
-byte_complete n s t h = ap (behind_byte n) (byte_out h) ∙ cond_true (eqb n n) (Some t) None (eq-eqb n n refl)
+byte_complete n s t h = ap (behind_byte n) (byte_out h) ∙ cond-true (eqb n n) (Some t) None (eq-eqb n n refl)

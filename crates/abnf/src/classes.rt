@@ -101,7 +101,7 @@ impl Class for Token {
 
 // What stands behind one byte of the class.
 pub fn skip_one<'a, C: Class>(s: &'a [u8]) -> Option<&'a [u8]>
-    ensures { option_map (λ x. x.now) result ≡ behind_one test s.now }
+    ensures { option_map (λ x. x.now) result ≡ behind_one C.test s.now }
 {
     match s {
         [b, tail @ ..] if C::holds(*b) => Some(tail),
@@ -121,7 +121,7 @@ pub fn skip_byte<'a>(s: &'a [u8], b: u8) -> Option<&'a [u8]>
 
 // What stands behind a run of one byte or more of the class, as long as it goes.
 pub fn skip_some<'a, C: Class>(s: &'a [u8]) -> Option<&'a [u8]>
-    ensures { option_map (λ x. x.now) result ≡ behind_some test s.now }
+    ensures { option_map (λ x. x.now) result ≡ behind_some C.test s.now }
 {
     match s {
         [b, tail @ ..] if C::holds(*b) => Some(skip::<C>(tail)),

@@ -1,6 +1,6 @@
 -- Lists of mailboxes.
 use Rattle.std.proofs.Common.{◌≡◌, ℕ, zero, suc, ◌+◌, ◌<◌, ◌≤◌, Bool, true, false, cond, eqb, leb, List, [], ◌∷◌, length, get_or, Some, None, Option, sym, refl, ap, ◌∙◌, subst, arith}
-use Rattle.std.proofs.lemmas.Bool.{cond_both, cond_true, cond_false, eqb-true, leb-true, le-leb, lt-leb}
+use Rattle.std.proofs.lemmas.Bool.{cond_both, cond-true, cond-false, eqb-true, leb-true, le-leb, lt-leb}
 use Rattle.fields.specs.Clean.{clean}
 use Rattle.fields.proofs.Patterns.{tail, one_ahead}
 use Rattle.abnf.specs.Abnf.{Rule, ◌⋅◌, byte, each, nothing, At}
@@ -82,7 +82,7 @@ list_complete : (s : List ℕ) (xs : List Addr) → clean s ≡ true → mailbox
 list_complete s [] c h = absurd h
 list_complete s (a ∷ others) c h =
     ap (λ o. bind o few_enough) (listed_complete (suc (length s)) s a others c (omega arith) (whole_in h.1))
-    ∙ cond_true (leb (length (a ∷ others)) most_addresses) _ None (le-leb (length (a ∷ others)) most_addresses h.0)
+    ∙ cond-true (leb (length (a ∷ others)) most_addresses) _ None (le-leb (length (a ∷ others)) most_addresses h.0)
 
 pub list_exact : (s : List ℕ) (r : Option (List Addr)) → r ≡ mailbox_list_of s → clean s ≡ true → Exactly mailbox_list itself s r
 list_exact s r e c = exactly mailbox_list itself s (mailbox_list_of s) r (e ∙ mapped_itself (mailbox_list_of s)) (list_sound s) (λ xs h. list_complete s xs c h)
@@ -132,7 +132,7 @@ listed_addresses (suc k) s xs e =
         cond_both (eqb b 44) (bind (turns listed k u) (λ others. Some (a ∷ others))) None (λ o. o ≡ Some xs → a ∷ addresses (cond (eqb b 44) u []) ≡ xs)
         (λ c w.
         let y = bind_some (turns listed k u) _ xs w in
-        ap (λ l. a ∷ addresses l) (cond_true (eqb b 44) u [] c) ∙ ap (λ l. a ∷ l) (ih u y.0 y.1) ∙ some_same y.2)
+        ap (λ l. a ∷ addresses l) (cond-true (eqb b 44) u [] c) ∙ ap (λ l. a ∷ l) (ih u y.0 y.1) ∙ some_same y.2)
         (λ _ w. absurd (none_some w))
         q
 
@@ -197,7 +197,7 @@ module _ (whole : Bool) (rest : List ℕ) (n : ℕ) (c : Counting rest n whole) 
         go (b ∷ u) f w =
             cond_both (eqb b 44) (Some u) None (λ o. o ≡ None → false ≡ whole)
             (λ _ z. absurd (none_some (sym z)))
-            (λ h _. sym (ap (counted n) (cond_false (eqb b 44) _ None h)) ∙ behind_it (b ∷ u) f)
+            (λ h _. sym (ap (counted n) (cond-false (eqb b 44) _ None h)) ∙ behind_it (b ∷ u) f)
             w
 
     module _ (u : List ℕ) (q : behind_byte 44 m.rest ≡ Some u) where

@@ -1,6 +1,6 @@
 -- *word [CFWS], in a clean body.
 use Rattle.std.proofs.Common.{◌≡◌, ℕ, zero, suc, ◌<◌, ◌≤◌, true, false, eqb, ◌⊎◌, List, [], ◌∷◌, length, get_or, Some, None, sym, refl, ap, ◌∙◌, subst, ⊎_elim, arith}
-use Rattle.std.proofs.lemmas.Bool.{cond_both, cond_true, cond_false, or_from, or_left, or_cases, eqb-true}
+use Rattle.std.proofs.lemmas.Bool.{cond_both, cond-true, cond-false, or_from, or_left, or_cases, eqb-true}
 use Rattle.fields.specs.Classes.{wsp, behind}
 use Rattle.fields.specs.Clean.{clean}
 use Rattle.fields.proofs.Patterns.{tail, one_ahead}
@@ -40,7 +40,7 @@ module _ (whole : Left) (s : List ℕ) (g : Going name_words s whole) (some : 1 
   at_word : word_first (get_or s 0 0) ≡ true → (o : Left) → word_rest s ≡ o → bind o (λ t. bind (cfws t) (turns name_words g.fuel)) ≡ whole
   at_word e o q =
       let r : word_rest (get_or s 0 0 ∷ tail 1 s) ≡ o = ap word_rest (sym cut) ∙ q in
-      ap (λ x. bind x (λ t. bind (cfws t) (turns name_words g.fuel))) (sym r) ∙ sym (cond_true (word_first (get_or s 0 0)) _ (Some (get_or s 0 0 ∷ tail 1 s)) e) ∙ going_at g cut
+      ap (λ x. bind x (λ t. bind (cfws t) (turns name_words g.fuel))) (sym r) ∙ sym (cond-true (word_first (get_or s 0 0)) _ (Some (get_or s 0 0 ∷ tail 1 s)) e) ∙ going_at g cut
 
   pub past_word : word_first (get_or s 0 0) ≡ true → (t u : List ℕ) → word_rest s ≡ Some t → cfws t ≡ Some u → Turned name_words s u whole
   past_word e t u q r =
@@ -54,7 +54,7 @@ module _ (whole : Left) (s : List ℕ) (g : Going name_words s whole) (some : 1 
   open_white e t q r = ap (λ o. bind o (turns name_words g.fuel)) (sym r) ∙ at_word e (Some t) q
 
   pub name_over : word_first (get_or s 0 0) ≡ false → Some s ≡ whole
-  name_over e = ap Some cut ∙ sym (cond_false (word_first (get_or s 0 0)) _ (Some (get_or s 0 0 ∷ tail 1 s)) e) ∙ going_at g cut
+  name_over e = ap Some cut ∙ sym (cond-false (word_first (get_or s 0 0)) _ (Some (get_or s 0 0 ∷ tail 1 s)) e) ∙ going_at g cut
 
 pub name_empty : (whole : Left) (s : List ℕ) → Going name_words s whole → length s < 1 → Some s ≡ whole
 name_empty whole [] g h = going_at g refl
@@ -145,14 +145,14 @@ letters {m = m} h (one_more {s = s} {m = v} a r) =
     ⊎_elim
     (λ p. kept (bit_off p))
     (λ x. ⊎_elim
-    (λ l. let d = one_out l in subst (λ y. Many Piece y m) (sym (ap (behind atext) d.1 ∙ cond_true (atext d.0) (behind atext v) (d.0 ∷ v) d.2)) ih)
+    (λ l. let d = one_out l in subst (λ y. Many Piece y m) (sym (ap (behind atext) d.1 ∙ cond-true (atext d.0) (behind atext v) (d.0 ∷ v) d.2)) ih)
     (λ g. let p = seq_out g in kept (subst (Off atext) (sym (byte_out p.1)) refl))
     (alt_out x))
     (alt_out a)
 
 words_stay : (again : List ℕ → Left) (m : List ℕ) → Stop m → name_words again m ≡ Some m
 words_stay again [] h = refl
-words_stay again (b ∷ m) h = cond_false (word_first b) _ _ (or_from (atext b) (eqb b 34) h.3 h.4)
+words_stay again (b ∷ m) h = cond-false (word_first b) _ _ (or_from (atext b) (eqb b 34) h.3 h.4)
 
 -- past the white space, by what is known of fewer turns
 white_then : (k : ℕ) (v m : List ℕ) → clean v ≡ true → Stop m → Many Piece v m → ((t : List ℕ) → clean t ≡ true → Next t m → length t ≤ length v → turns name_words k t ≡ Some m) → bind (cfws v) (turns name_words k) ≡ Some m
@@ -171,10 +171,10 @@ words_complete (suc k) t m c h (letter {v} a r) less =
     let past = many_in (behind_sound atext v) in
     let on : List ℕ → Left = λ x. bind (cfws x) (turns name_words k) in
     let whole : word_rest (d.0 ∷ v) ≡ Some l =
-    cond_false (eqb d.0 34) (quoted_rest v) (behind_some atext (d.0 ∷ v)) (differs atext 34 d.0 refl d.2) ∙ cond_true (atext d.0) (Some l) None d.2 in
+    cond-false (eqb d.0 34) (quoted_rest v) (behind_some atext (d.0 ∷ v)) (differs atext 34 d.0 refl d.2) ∙ cond-true (atext d.0) (Some l) None d.2 in
     let known : (u : List ℕ) → clean u ≡ true → Next u m → length u ≤ length l → turns name_words k u ≡ Some m = λ u cu n small. words_complete k u m cu h n (omega (arith, at_shorter past, ap length d.1)) in
     ap (name_words (turns name_words k)) d.1
-    ∙ cond_true (word_first d.0) (bind (word_rest (d.0 ∷ v)) on) _ (or_left (atext d.0) (eqb d.0 34) d.2)
+    ∙ cond-true (word_first d.0) (bind (word_rest (d.0 ∷ v)) on) _ (or_left (atext d.0) (eqb d.0 34) d.2)
     ∙ ap (λ o. bind o on) whole
     ∙ white_then k l m (clean_rest past (clean_rest a c)) h (letters h r) known
 words_complete (suc k) t m c h (string {v} g r) less =

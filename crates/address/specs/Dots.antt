@@ -1,7 +1,7 @@
 -- dot-atom-text, local parts and domains.
 use Rattle.std.specs.Prelude.{◌≡◌, ℕ, zero, suc, ◌<◌, ◌≤◌, Bool, false, ◌||◌, List, [], ◌∷◌, length, Some, None, ◌==◌, nat_eq, slice_index_or, refl}
 use Rattle.std.proofs.Common.{sym, ap, subst, ◌∙◌, arith}
-use Rattle.std.proofs.lemmas.Bool.{cond_both, cond_false, eqb-true, or_parts}
+use Rattle.std.proofs.lemmas.Bool.{cond_both, cond-false, eqb-true, or_parts}
 use Rattle.fields.specs.Classes.{behind}
 use Rattle.fields.proofs.Patterns.{tail, one_ahead}
 use Rattle.abnf.specs.Abnf.{Rule, ◌⋅◌, ◌∕◌, star, plus, byte, one, At}
@@ -91,7 +91,7 @@ dot_or_atext b = atext b || b == 46
 
 dotted_stays : (again : List ℕ → Left) (t : List ℕ) → Off is_dot t → dotted again t ≡ Some t
 dotted_stays again [] o = refl
-dotted_stays again (b ∷ t) o = cond_false (b == 46) _ _ o
+dotted_stays again (b ∷ t) o = cond-false (b == 46) _ _ o
 
 -- no run of atext goes on at a "." or at the end
 next_off : {m t : List ℕ} → Many Next m t → Off atext t → Off atext m

@@ -2,7 +2,7 @@
 use Rattle.std.specs.Prelude.{◌≡◌, ℕ, false, ◌⊎◌, List, [], ◌∷◌, Some, None, Option, ◌==◌, nat_eq, refl}
 use Rattle.std.proofs.Common.{⊎_elim, sym, ap, subst, ◌∙◌, arith}
 use Rattle.std.specs.Option.{option_map}
-use Rattle.std.proofs.lemmas.Bool.{cond_false}
+use Rattle.std.proofs.lemmas.Bool.{cond-false}
 use Rattle.fields.specs.Fields.{Placed}
 use Rattle.abnf.specs.Abnf.{◌∕◌, opt, byte, At}
 use Rattle.abnf.specs.Exact.{Exactly, itself}
@@ -62,7 +62,7 @@ path_sound s x e =
 -- an address is no null path
 text_not_null : (u v : List ℕ) → At (dot_atom_text ∕ quoted_text) u v → behind_byte 62 u ≡ None
 text_not_null u v h = ⊎_elim
-    (λ d. let p = seq_out d in let f = some_first atext 62 refl u p.0 p.1 in ap (behind_byte 62) f.2 ∙ cond_false (f.0 == 62) (Some f.1) None f.3)
+    (λ d. let p = seq_out d in let f = some_first atext 62 refl u p.0 p.1 in ap (behind_byte 62) f.2 ∙ cond-false (f.0 == 62) (Some f.1) None f.3)
     (λ q. let p = seq_out q in ap (behind_byte 62) (byte_out p.1))
     (alt_out h)
 

@@ -5,7 +5,7 @@ ghost use Rattle.address.specs.Reads.{dot_atom_rest, literal_rest, local_rest, d
 ghost use Rattle.address.specs.Seen.{found};
 ghost use Rattle.address.specs.Dots.{local_shortens, domain_shortens};
 
-use abnf::classes::{skip_byte, skip_some};
+use abnf::classes::{Atext, Dtext, skip_byte, skip_some};
 use fields::bytes::skip;
 use lexical::quoted::skip_quoted;
 use lexical::span::{Reader, around};
@@ -28,9 +28,9 @@ pub(crate) struct Located<'a> {
 pub(crate) fn skip_dot_atom<'a>(s: &'a [u8]) -> Option<&'a [u8]>
     ensures { option_map (λ x. x.now) result ≡ dot_atom_rest s.now }
 {
-    let mut rest = skip_some::<abnf::classes::Atext>(s)?;
+    let mut rest = skip_some::<Atext>(s)?;
     while let [b'.', tail @ ..] = rest {
-        rest = skip_some::<abnf::classes::Atext>(tail)?;
+        rest = skip_some::<Atext>(tail)?;
     }
     Some(rest)
 }
@@ -39,7 +39,7 @@ pub(crate) fn skip_dot_atom<'a>(s: &'a [u8]) -> Option<&'a [u8]>
 fn skip_literal<'a>(s: &'a [u8]) -> Option<&'a [u8]>
     ensures { option_map (λ x. x.now) result ≡ literal_rest s.now }
 {
-    skip_byte(skip::<abnf::classes::Dtext>(s), b']')
+    skip_byte(skip::<Dtext>(s), b']')
 }
 
 // A dot-atom-text, or a quoted-string from quote to quote.

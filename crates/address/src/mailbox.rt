@@ -9,7 +9,7 @@ ghost use Rattle.address.specs.Lists.{behind_comma, parted, mailbox_list_of, is_
 ghost use Rattle.address.specs.Seen.{found, listing, first_of};
 
 use crate::addr_spec::{Address, Located, addr_spec};
-use abnf::classes::skip_byte;
+use abnf::classes::{Atext, skip_byte};
 use fields::bytes::Class;
 use lexical::span::Reader;
 use lexical::white::skip_cfws;
@@ -24,7 +24,7 @@ impl Class for WordFirst {
     ghost test = { word_first };
 
     fn holds(b: u8) -> bool {
-        <abnf::classes::Atext as Class>::holds(b) || b == b'"'
+        Atext::holds(b) || b == b'"'
     }
 }
 
@@ -34,7 +34,7 @@ fn skip_name<'a>(s: &'a [u8]) -> Option<&'a [u8]>
 {
     let mut rest = skip_cfws(s)?;
     while let [b, ..] = rest
-        && <WordFirst as Class>::holds(*b)
+        && WordFirst::holds(*b)
     {
         rest = skip_cfws(<lexical::quoted::Word as Reader>::read(rest)?)?;
     }

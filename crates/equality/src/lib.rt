@@ -1,4 +1,6 @@
 // When two addresses are the same, and how many different ones a list has.
+#![tactic(auto)]
+
 ghost use Rattle.std.specs.Prelude.{◌≡◌, ℕ};
 ghost use Rattle.address.specs.Seen.{addr, listing};
 ghost use Rattle.equality.specs.Equality.{same_address};

@@ -1,4 +1,6 @@
 // The worked examples that are proved: the code reads each, and the contracts say what comes of it.
+#![tactic(auto)]
+
 ghost use Rattle.std.specs.Prelude.{◌≡◌, true, not};
 ghost use Rattle.equality.specs.Equality.{same_address};
 ghost use Rattle.examples.specs.Starred.{at_x, Starred};

@@ -1,4 +1,6 @@
 // The edges of lines and fields: each line of the input is a case, and is printed with its answer.
+#![tactic(auto)]
+
 use fields::field::Form;
 use fields::walk::walk;
 use picky::Picky;

@@ -1,6 +1,6 @@
 -- A walk accepts inputs and nothing else.
 use Rattle.std.proofs.Common.{◌≡◌, ℕ, suc, ◌+◌, ◌≤◌, ltb, List, [], ◌∷◌, length, Ok, Err, Result, sym, refl, ap, ◌∙◌, arith}
-use Rattle.std.proofs.lemmas.Bool.{cond_false, cond_both, le-ltb, ltb-false}
+use Rattle.std.proofs.lemmas.Bool.{cond-false, cond_both, le-ltb, ltb-false}
 use Rattle.fields.specs.declared.field.Form.{Form}
 use Rattle.fields.specs.declared.refusal.Place.{Place}
 use Rattle.fields.specs.declared.refusal.Objection.{Objection}
@@ -31,7 +31,7 @@ module _ {S : Type 0} (step : S → PlacedField → Result S Objection) where
   unfolding told
   told_all n s [] h = refl
   told_all n s (f ∷ fs) h =
-      cond_false (ltb most_fields n) (Err (TooManyFields (place n f.name.at))) (taken (step s f) (place n f.name.at) (λ t. told step (suc n) t fs whole)) (le-ltb most_fields n (omega arith))
+      cond-false (ltb most_fields n) (Err (TooManyFields (place n f.name.at))) (taken (step s f) (place n f.name.at) (λ t. told step (suc n) t fs whole)) (le-ltb most_fields n (omega arith))
       ∙ taken_same (step s f) (place n f.name.at) (λ t. told step (suc n) t fs whole) (λ t. all_told step (suc n) t fs) (λ t. told_all (suc n) t fs (omega arith))
 
   -- one field taken, and then the others
@@ -91,7 +91,7 @@ module _ {S : Type 0} (step : S → PlacedField → Result S Objection) where
     unfolding walked
     walked_tells fs i =
         let c = fields_of form input in
-        cond_false (ltb longest_input (length input)) (Err TooLong) (told step 1 s c.fields c.ending) (le-ltb longest_input (length input) i.short)
+        cond-false (ltb longest_input (length input)) (Err TooLong) (told step 1 s c.fields c.ending) (le-ltb longest_input (length input) i.short)
         ∙ ap (λ (x : Cut). told step 1 s x.fields x.ending) ((cut_exactly form input).built fs i.is_built)
         ∙ told_all 1 s fs (omega (arith, i.few))
 

@@ -1,6 +1,6 @@
 -- How the cut goes on, line by line.
 use Rattle.std.proofs.Common.{◌≡◌, ℕ, ◌+◌, ◌<◌, ◌≤◌, Bool, true, false, cond, eqb, List, [], ◌∷◌, ◌++◌, length, get_or, Some, None, Option, sym, refl, ap, ◌∙◌, subst, arith}
-use Rattle.std.proofs.lemmas.Bool.{cond_true, cond_false, cond_both, and_parts, and_from}
+use Rattle.std.proofs.lemmas.Bool.{cond-true, cond-false, cond_both, and_parts, and_from}
 use Rattle.fields.specs.declared.field.Form.{Form}
 use Rattle.fields.specs.declared.field.Form.TheVariants.{Header, Report}
 use Rattle.fields.specs.Classes.{wsp, ftext, every, starts, front, behind}
@@ -28,17 +28,17 @@ module _ (p : ℕ → Bool) where
 
   pub front_is : (n t : List ℕ) → every p n ≡ true → starts p t ≡ false → front p (n ++ t) ≡ n
   front_is [] [] h k = refl
-  front_is [] (b ∷ t) h k = cond_false (p b) (b ∷ front p t) [] k
+  front_is [] (b ∷ t) h k = cond-false (p b) (b ∷ front p t) [] k
   front_is (b ∷ n) t h k =
       let x = and_parts (p b) (every p n) h in
-      cond_true (p b) (b ∷ front p (n ++ t)) [] x.0 ∙ ap (λ u. b ∷ u) (front_is n t x.1 k)
+      cond-true (p b) (b ∷ front p (n ++ t)) [] x.0 ∙ ap (λ u. b ∷ u) (front_is n t x.1 k)
 
   pub behind_is : (n t : List ℕ) → every p n ≡ true → starts p t ≡ false → behind p (n ++ t) ≡ t
   behind_is [] [] h k = refl
-  behind_is [] (b ∷ t) h k = cond_false (p b) (behind p t) (b ∷ t) k
+  behind_is [] (b ∷ t) h k = cond-false (p b) (behind p t) (b ∷ t) k
   behind_is (b ∷ n) t h k =
       let x = and_parts (p b) (every p n) h in
-      cond_true (p b) (behind p (n ++ t)) (b ∷ n ++ t) x.0 ∙ behind_is n t x.1 k
+      cond-true (p b) (behind p (n ++ t)) (b ∷ n ++ t) x.0 ∙ behind_is n t x.1 k
 
 -- a line, before other texts
 pub cut_cons : (form : Form) (before : Option PlacedField) (at : ℕ) (t : List ℕ) (ts : List (List ℕ)) → Parted ts → cut form before at (t ∷ ts) ≡ by_role before at (λ f. cut form (Some f) (at + length t + 2) ts) (role form before at t)
@@ -98,12 +98,12 @@ unfolding cut
 texts_close form f at [] [] h = refl
 texts_close form f at (b ∷ t) [] h =
     let P : Role → Type 0 = λ r. by_role (Some f) at (λ g. stop whole) r ≡ closing (Some f) (by_role None at (λ g. stop whole) r) in
-    subst P (sym (cond_false (wsp b) spoils faulty h)) refl
+    subst P (sym (cond-false (wsp b) spoils faulty h)) refl
 texts_close form f at t (u ∷ us) h =
     let on : PlacedField → Cut = λ g. cut form (Some g) (at + length t + 2) (u ∷ us) in
-    ap (by_role (Some f) at on) (cond_false (indented t) (continuing (Some f) t) (opening form at t) h)
+    ap (by_role (Some f) at on) (cond-false (indented t) (continuing (Some f) t) (opening form at t) h)
     ∙ opening_closes f at on form at t
-    ∙ ap (λ r. closing (Some f) (by_role None at on r)) (sym (cond_false (indented t) (continuing None t) (opening form at t) h))
+    ∙ ap (λ r. closing (Some f) (by_role None at on r)) (sym (cond-false (indented t) (continuing None t) (opening form at t) h))
 
 pub cut_closes : (form : Form) (f : PlacedField) (at : ℕ) (s : List ℕ) → indented s ≡ false → cut form (Some f) at (texts s) ≡ closing (Some f) (cut form None at (texts s))
 cut_closes form f at s h =

@@ -1,6 +1,6 @@
 -- The continuation lines of a field, and its end.
 use Rattle.std.proofs.Common.{◌≡◌, ℕ, suc, ◌+◌, ◌-◌, ◌≤◌, true, false, not, ◌&&◌, eqb, leb, List, [], ◌∷◌, ◌++◌, length, Some, None, sym, refl, ap, ◌∙◌, subst, ⊎_elim, arith, length-append}
-use Rattle.std.proofs.lemmas.Bool.{cond_true, cond_false, cond_both, and_parts, and_from, and_left, and_right, both_ways, cases_Bool, eqb-true, le-leb, not_from_true}
+use Rattle.std.proofs.lemmas.Bool.{cond-true, cond-false, cond_both, and_parts, and_from, and_left, and_right, both_ways, cases_Bool, eqb-true, le-leb, not_from_true}
 use Rattle.std.proofs.lemmas.List.{append_assoc}
 use Rattle.fields.specs.declared.field.Form.{Form}
 use Rattle.fields.specs.Limits.{longest_line}
@@ -96,11 +96,11 @@ module _ (at : ℕ) (s text : List ℕ) where
 -- a continuation line at fault
 spoiled : (form : Form) (f : PlacedField) (at w : ℕ) (t : List ℕ) (ts : List (List ℕ)) → wsp w ≡ true → ((u : List ℕ) (us : List (List ℕ)) → ts ≡ u ∷ us → (sound (w ∷ t) && not (blank (w ∷ t))) ≡ false) → cut form (Some f) at ((w ∷ t) ∷ ts) ≡ stop (fault at)
 unfolding cut
-spoiled form f at w t [] h k = ap (by_role (Some f) at (λ g. stop whole)) (cond_true (wsp w) spoils faulty h)
+spoiled form f at w t [] h k = ap (by_role (Some f) at (λ g. stop whole)) (cond-true (wsp w) spoils faulty h)
 spoiled form f at w t (u ∷ us) h k =
     let on : PlacedField → Cut = λ g. cut form (Some g) (at + length (w ∷ t) + 2) (u ∷ us) in
     let no = k u us refl in
-    ap (by_role (Some f) at on) (cond_true (wsp w) (continuing (Some f) (w ∷ t)) (opening form at (w ∷ t)) h ∙ cond_false (sound (w ∷ t) && not (blank (w ∷ t))) (continues (continued f (w ∷ t))) spoils no)
+    ap (by_role (Some f) at on) (cond-true (wsp w) (continuing (Some f) (w ∷ t)) (opening form at (w ∷ t)) h ∙ cond-false (sound (w ∷ t) && not (blank (w ∷ t))) (continues (continued f (w ∷ t))) spoils no)
 
 -- where `fold_end` finds none
 unfit : (w : ℕ) (line t u : List ℕ) (us : List (List ℕ)) → wsp w ≡ true → fold_end line ≡ None → texts line ≡ t ∷ u ∷ us → (sound (w ∷ t) && not (blank (w ∷ t))) ≡ false

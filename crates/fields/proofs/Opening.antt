@@ -1,6 +1,6 @@
 -- The first line of a field, and its continuation lines.
 use Rattle.std.proofs.Common.{◌≡◌, ℕ, suc, ◌+◌, ◌-◌, ◌<◌, ◌≤◌, Bool, true, false, not, ◌&&◌, eqb, leb, List, [], ◌∷◌, ◌++◌, length, Some, None, Option, sym, refl, ap, ◌∙◌, arith, length-append}
-use Rattle.std.proofs.lemmas.Bool.{cond_true, cond_false, cond_both, and_parts, and_from, both_ways, eqb-true, leb-true, le-leb, not_from_false}
+use Rattle.std.proofs.lemmas.Bool.{cond-true, cond-false, cond_both, and_parts, and_from, both_ways, eqb-true, leb-true, le-leb, not_from_false}
 use Rattle.std.proofs.lemmas.List.{append_assoc}
 use Rattle.fields.specs.declared.field.Form.{Form}
 use Rattle.fields.specs.Limits.{longest_line}
@@ -23,16 +23,16 @@ every_right p (b ∷ s) t h = every_right p s t (and_parts (p b) (every p (s ++ 
 pub role_opens : (form : Form) (before : Option PlacedField) (at b : ℕ) (n t : List ℕ) → every ftext (b ∷ n) ≡ true → sound (b ∷ n ++ 58 ∷ t) ≡ true → role form before at (b ∷ n ++ 58 ∷ t) ≡ opens (field_at at (b ∷ n) t)
 role_opens form before at b n t h k =
     let f = ftext_not_wsp b (and_parts (ftext b) (every ftext n) h).0 in
-    cond_false (wsp b) (continuing before (b ∷ n ++ 58 ∷ t)) (opening form at (b ∷ n ++ 58 ∷ t)) f
-    ∙ cond_true (sound (b ∷ n ++ 58 ∷ t)) (named at (front ftext (b ∷ n ++ 58 ∷ t)) (behind ftext (b ∷ n ++ 58 ∷ t))) faulty k
+    cond-false (wsp b) (continuing before (b ∷ n ++ 58 ∷ t)) (opening form at (b ∷ n ++ 58 ∷ t)) f
+    ∙ cond-true (sound (b ∷ n ++ 58 ∷ t)) (named at (front ftext (b ∷ n ++ 58 ∷ t)) (behind ftext (b ∷ n ++ 58 ∷ t))) faulty k
     ∙ ap (λ x. named at x (behind ftext (b ∷ n ++ 58 ∷ t))) (front_is ftext (b ∷ n) (58 ∷ t) h refl)
     ∙ ap (named at (b ∷ n)) (behind_is ftext (b ∷ n) (58 ∷ t) h refl)
 
 -- the role of a continuation line
 pub role_continues : (form : Form) (f : PlacedField) (at : ℕ) (t : List ℕ) → sound t ≡ true → indented t ≡ true → blank t ≡ false → role form (Some f) at t ≡ continues (continued f t)
 role_continues form f at t s i b =
-    cond_true (indented t) (continuing (Some f) t) (opening form at t) i
-    ∙ cond_true (sound t && not (blank t)) (continues (continued f t)) spoils (and_from (sound t) (not (blank t)) s (not_from_false (blank t) b))
+    cond-true (indented t) (continuing (Some f) t) (opening form at t) i
+    ∙ cond-true (sound t && not (blank t)) (continues (continued f t)) spoils (and_from (sound t) (not (blank t)) s (not_from_false (blank t) b))
 
 -- the first text of what is neither over nor at an empty line is not empty
 first_some : (s t : List ℕ) (ts : List (List ℕ)) → texts s ≡ t ∷ ts → no_field s ≡ false → 0 < length t
@@ -54,7 +54,7 @@ no_colon (b ∷ s) e = cond_both (eqb b 58) (Some s) None (λ o. o ≡ None → 
 named_none : (at : ℕ) (n t : List ℕ) → starts (λ b. eqb b 58) t ≡ false → named at n t ≡ faulty
 named_none at [] t h = refl
 named_none at (b ∷ n) [] h = refl
-named_none at (b ∷ n) (c ∷ t) h = cond_false (eqb c 58) (opens (field_at at (b ∷ n) t)) faulty h
+named_none at (b ∷ n) (c ∷ t) h = cond-false (eqb c 58) (opens (field_at at (b ∷ n) t)) faulty h
 
 plain_front : (s : List ℕ) → every plain (front ftext s) ≡ true
 plain_front s = every_sub ftext plain ftext_plain (front ftext s) (front_every ftext s)

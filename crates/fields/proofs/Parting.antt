@@ -1,7 +1,7 @@
 -- What parting at each CRLF gives.
 use Rattle.std.proofs.Common.{◌≡◌, ℕ, zero, suc, ◌≤◌, Bool, true, false, cond, ◌&&◌, ◌||◌, eqb, leb, List, [], ◌∷◌, ◌++◌, length, Some, None, Option, sym, refl, ap, ◌∙◌, ⊎_elim, arith}
 use Prim.Native.Nat.compare
-use Rattle.std.proofs.lemmas.Bool.{cond_false, cond_both, and_parts, and_left, and_right, and_from, or_parts, not-true, eqb-true, ne_eqb, leb-true, lt-leb, or_cases, both_ways}
+use Rattle.std.proofs.lemmas.Bool.{cond-false, cond_both, and_parts, and_left, and_right, and_from, or_parts, not-true, eqb-true, ne_eqb, leb-true, lt-leb, or_cases, both_ways}
 use Rattle.std.proofs.lemmas.List.{append-nil}
 use Rattle.fields.specs.Classes.{wsp, ftext, plain, every, starts}
 use Rattle.fields.specs.Lines.{onto, texts}
@@ -60,7 +60,7 @@ parted (a ∷ b ∷ s) =
 pub texts_on : (b : ℕ) (s : List ℕ) → at_crlf (b ∷ s) ≡ false → texts (b ∷ s) ≡ onto b (texts s)
 unfolding texts
 texts_on b [] e = refl
-texts_on b (a ∷ s) e = cond_false (eqb b 13 && eqb a 10) ([] ∷ texts s) (onto b (texts (a ∷ s))) e
+texts_on b (a ∷ s) e = cond-false (eqb b 13 && eqb a 10) ([] ∷ texts s) (onto b (texts (a ∷ s))) e
 
 pub texts_front : (p s t : List ℕ) (ts : List (List ℕ)) → every plain p ≡ true → texts s ≡ t ∷ ts → texts (p ++ s) ≡ (p ++ t) ∷ ts
 unfolding texts

@@ -1,6 +1,6 @@
 -- The turns of the walk.
 use Rattle.std.proofs.Common.{◌≡◌, ℕ, suc, ◌+◌, ◌<◌, ◌≤◌, true, false, ltb, List, length, Some, None, Ok, Err, Result, sym, refl, ap, ◌∙◌, add-one, arith}
-use Rattle.std.proofs.lemmas.Bool.{cond_true, cond_false, lt-ltb, le-ltb}
+use Rattle.std.proofs.lemmas.Bool.{cond-true, cond-false, lt-ltb, le-ltb}
 use Rattle.fields.specs.declared.field.Form.{Form}
 use Rattle.fields.specs.declared.refusal.Objection.{Objection}
 use Rattle.fields.specs.declared.refusal.Refusal.{Refusal}
@@ -17,11 +17,11 @@ told_cut step n s c = told step n s c.fields c.ending
 module _ {S : Type 0} (step : S → PlacedField → Result S Objection) (n : ℕ) (s : S) (f : PlacedField) (c : Cut) where
   pub too_many : ltb most_fields n ≡ true → told_cut step n s (closing (Some f) c) ≡ Err (TooManyFields (place n f.name.at))
   unfolding told
-  too_many h = cond_true (ltb most_fields n) (Err (TooManyFields (place n f.name.at))) (taken (step s f) (place n f.name.at) (λ t. told step (suc n) t c.fields c.ending)) h
+  too_many h = cond-true (ltb most_fields n) (Err (TooManyFields (place n f.name.at))) (taken (step s f) (place n f.name.at) (λ t. told step (suc n) t c.fields c.ending)) h
 
   told_on : ltb most_fields n ≡ false → told_cut step n s (closing (Some f) c) ≡ taken (step s f) (place n f.name.at) (λ t. told step (suc n) t c.fields c.ending)
   unfolding told
-  told_on h = cond_false (ltb most_fields n) (Err (TooManyFields (place n f.name.at))) (taken (step s f) (place n f.name.at) (λ t. told step (suc n) t c.fields c.ending)) h
+  told_on h = cond-false (ltb most_fields n) (Err (TooManyFields (place n f.name.at))) (taken (step s f) (place n f.name.at) (λ t. told step (suc n) t c.fields c.ending)) h
 
   pub objected : ltb most_fields n ≡ false → (why : Objection) → step s f ≡ Err why → told_cut step n s (closing (Some f) c) ≡ Err (Objected why (place n f.name.at))
   objected h why e = told_on h ∙ ap (λ r. taken r (place n f.name.at) (λ t. told step (suc n) t c.fields c.ending)) e
@@ -44,14 +44,14 @@ module _ {S : Type 0} (step : S → PlacedField → Result S Objection) (s : S) 
 
   pub too_long : longest_input < length input → Err TooLong ≡ walked step s form input
   unfolding walked
-  too_long h = sym (cond_true (ltb longest_input (length input)) (Err TooLong) (told_cut step 1 s (fields_of form input)) (lt-ltb longest_input (length input) h))
+  too_long h = sym (cond-true (ltb longest_input (length input)) (Err TooLong) (told_cut step 1 s (fields_of form input)) (lt-ltb longest_input (length input) h))
 
   module _ (n : ℕ) (t : S) (at : ℕ) (left : List ℕ) (c : Comes step s form input n t at left) where
     -- what is found first decides
     by_first : length input ≤ longest_input → (first : Cut) → cut form None at (texts left) ≡ first → told_cut step n t first ≡ walked step s form input
     unfolding walked
     by_first short first e =
-        ap (told_cut step n t) (sym e) ∙ c.same ∙ sym (cond_false (ltb longest_input (length input)) (Err TooLong) (told_cut step 1 s (fields_of form input)) (le-ltb longest_input (length input) short))
+        ap (told_cut step n t) (sym e) ∙ c.same ∙ sym (cond-false (ltb longest_input (length input)) (Err TooLong) (told_cut step 1 s (fields_of form input)) (le-ltb longest_input (length input) short))
 
     pub ends_whole : length input ≤ longest_input → cut form None at (texts left) ≡ stop whole → Ok t ≡ walked step s form input
     unfolding told

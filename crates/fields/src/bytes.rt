@@ -34,7 +34,7 @@ impl Class for Ftext {
 
 // What is left behind the bytes of the class that `s` begins with.
 pub fn skip<'a, C: Class>(s: &'a [u8]) -> &'a [u8]
-    ensures { result.now ≡ behind test s.now }
+    ensures { result.now ≡ behind C.test s.now }
 {
     let mut rest = s;
     while let [b, tail @ ..] = rest

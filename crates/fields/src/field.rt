@@ -4,7 +4,7 @@ ghost use Rattle.fields.specs.Lines.{texts};
 ghost use Rattle.fields.specs.Fields.{cut};
 ghost use Rattle.fields.specs.Scans.{no_field, found, Ahead};
 
-use crate::bytes::skip;
+use crate::bytes::{Ftext, skip};
 use crate::line::{LONGEST_LINE, fold_end, fold_start, line_end, past_colon};
 use crate::part::{Field, Part};
 
@@ -47,7 +47,7 @@ fn read_field<'a>(from: Part<'a>) -> Next<'a>
     ensures found { (form : Form) → no_field from.entry.text.now ≡ false → cut form None from.entry.at (texts from.entry.text.now) ≡ found form result }
     ensures ahead { Ahead from.entry result }
 {
-    let Some(text) = past_colon(skip::<crate::bytes::Ftext>(from.text)) else {
+    let Some(text) = past_colon(skip::<Ftext>(from.text)) else {
         return Next::Fault(from.at);
     };
     let used = from.text.len() - text.len();

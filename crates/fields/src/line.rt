@@ -3,7 +3,7 @@ ghost use Rattle.std.specs.Prelude.{◌≡◌};
 ghost use Rattle.std.specs.Option.{option_map};
 ghost use Rattle.fields.specs.Scans.{crlf_here, past_colon, line_end, fold_start, fold_end};
 
-use crate::bytes::{Class, skip};
+use crate::bytes::{Class, Wsp, skip};
 
 // The most bytes that a line may have before its CRLF.
 pub(crate) const LONGEST_LINE: usize = 998;
@@ -55,7 +55,7 @@ pub fn fold_start<'a>(s: &'a [u8]) -> Option<&'a [u8]>
     ensures { option_map (λ x. x.now) result ≡ fold_start s.now }
 {
     match s {
-        [b'\r', b'\n', next, rest @ ..] if <crate::bytes::Wsp as Class>::holds(*next) => Some(rest),
+        [b'\r', b'\n', next, rest @ ..] if Wsp::holds(*next) => Some(rest),
         _ => None,
     }
 }
@@ -64,7 +64,7 @@ pub fn fold_start<'a>(s: &'a [u8]) -> Option<&'a [u8]>
 pub(crate) fn fold_end<'a>(s: &'a [u8]) -> Option<&'a [u8]>
     ensures { option_map (λ x. x.now) result ≡ fold_end s.now }
 {
-    match crlf(skip::<crate::bytes::Wsp>(s)) {
+    match crlf(skip::<Wsp>(s)) {
         Some(_) => None,
         None => line_end(s, LONGEST_LINE - 1),
     }

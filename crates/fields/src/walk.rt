@@ -37,8 +37,8 @@ pub fn walk<'a, C: Collector<'a> + Drop>(
     input: &'a [u8],
     mut collector: C,
 ) -> Result<C, Refusal>
-    ensures walks { meaning state result ≡ walked step (state collector) form input.now }
-    ensures exactly { WalkExactly step (state collector) form input.now (meaning state result) }
+    ensures walks { meaning C.state result ≡ walked C.step (C.state collector) form input.now }
+    ensures exactly { WalkExactly C.step (C.state collector) form input.now (meaning C.state result) }
     ensures clean { all_clean (fields_of form input.now).fields ≡ true }
 {
     if input.len() > LONGEST_INPUT {

@@ -1,6 +1,6 @@
 -- The collector takes what the rules derive.
 use Rattle.std.proofs.Common.{◌≡◌, ℕ, suc, true, List, [], ◌∷◌, Some, None, Ok, Err, Option, Result, sym, refl, ap, ◌∙◌, subst, arith}
-use Rattle.std.proofs.lemmas.Bool.{cond_both, cond_false, and_parts}
+use Rattle.std.proofs.lemmas.Bool.{cond_both, cond-false, and_parts}
 use Rattle.fields.specs.declared.field.Form.TheVariants.{Header}
 use Rattle.fields.specs.declared.refusal.Objection.{Objection}
 use Rattle.fields.specs.declared.refusal.Objection.TheVariants.{Repeated}
@@ -81,7 +81,7 @@ tells_in : (c d : Collected) (f : PlacedField) → clean f.body.bytes ≡ true �
 unfolding collects
 tells_in c d f w t =
     let k = known_as f.name.bytes in
-    cond_false (filled c k) (Err Repeated) (entered k c f.body) t.0 ∙ makes_in k c d f.body w t.1
+    cond-false (filled c k) (Err Repeated) (entered k c f.body) t.0 ∙ makes_in k c d f.body w t.1
 
 -- ---- all fields
 all_out : (n : ℕ) (c d : Collected) (fs : List PlacedField) → all_clean fs ≡ true → all_told collects n c fs ≡ Ok d → AllTell c fs d

@@ -1,4 +1,6 @@
 // What headers say: each line of the input is a case, and is printed with its answer.
+#![tactic(auto)]
+
 use anyhow::Context;
 use fields::part::Part;
 use fields::refusal::Refusal;

@@ -1,4 +1,6 @@
 // The program: it reads files by the library, and prints what was found.
+#![tactic(auto)]
+
 use std::env;
 
 mod facts;

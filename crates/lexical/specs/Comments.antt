@@ -1,7 +1,7 @@
 -- Comments, and [CFWS].
 use Rattle.std.specs.Prelude.{◌≡◌, ℕ, zero, suc, ◌-◌, ◌<◌, ◌≤◌, ◌⊎◌, List, [], ◌∷◌, length, Some, None, ◌==◌, slice_index, slice_index_or, refl}
 use Rattle.std.proofs.Common.{⊎_elim, sym, ap, subst, ◌∙◌, arith}
-use Rattle.std.proofs.lemmas.Bool.{cond_both, cond_false, eqb-true}
+use Rattle.std.proofs.lemmas.Bool.{cond_both, cond-false, eqb-true}
 use Rattle.fields.specs.Classes.{wsp}
 use Rattle.fields.proofs.Patterns.{tail, one_ahead}
 use Rattle.abnf.specs.Abnf.{Rule, ◌⋅◌, star, opt, At}
@@ -108,7 +108,7 @@ comments_sound (suc k) (b ∷ u) t e s f =
 
 comments_stay : (again : List ℕ → Left) (t : List ℕ) → Apart t → comments again t ≡ Some t
 comments_stay again [] a = refl
-comments_stay again (b ∷ t) a = cond_false (b == 40) _ _ a.2
+comments_stay again (b ∷ t) a = cond-false (b == 40) _ _ a.2
 
 apart_wsp : (t : List ℕ) → Apart t → Off wsp t
 apart_wsp [] a = tt

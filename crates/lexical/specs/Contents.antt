@@ -1,7 +1,7 @@
 -- The pieces between an opening byte and its closing one: those of comments, and those of quoted strings.
 use Rattle.std.specs.Prelude.{◌≡◌, ℕ, zero, suc, ◌<◌, ◌≤◌, Bool, true, false, ◌⊎◌, List, [], ◌∷◌, length, Some, None, ◌==◌, nat_eq, slice_index, refl}
 use Rattle.std.proofs.Common.{⊎_elim, sym, ap, subst, ◌∙◌, arith}
-use Rattle.std.proofs.lemmas.Bool.{cond_both, cond_true, cond_false, eqb-true, eq-eqb, or_from}
+use Rattle.std.proofs.lemmas.Bool.{cond_both, cond-true, cond-false, eqb-true, eq-eqb, or_from}
 use Rattle.fields.specs.Classes.{wsp}
 use Rattle.fields.proofs.Patterns.{tail, one_ahead}
 use Rattle.abnf.specs.Abnf.{Rule, ◌⋅◌, ◌∕◌, star, opt, byte, one, At}
@@ -117,7 +117,7 @@ module _ (close : ℕ) (class : ℕ → Bool) (inner : List ℕ → Left) where
     content_complete (suc k) {s} {u} {t} no_more h less =
         let p = seq_out h in
         ap (step (turns step k)) (here s t close p.0 (byte_out p.2) p.1 apart.close_off.0 apart.close_off.1)
-        ∙ cond_true (close == close) _ _ (eq-eqb close close refl)
+        ∙ cond-true (close == close) _ _ (eq-eqb close close refl)
     content_complete (suc k) {t = t} (one_more {s = s} {m = v} a r) h less =
         let p = seq_out a in
         let m = p.0 in
@@ -130,18 +130,18 @@ module _ (close : ℕ) (class : ℕ → Bool) (inner : List ℕ → Left) where
         let b = d.0 in
         let no : (n : ℕ) → class n ≡ false → (b == n) ≡ false = λ n f. differs class n b f d.2 in
         let e = here s v b m d.1 p.1 (or_from (b == 32) (b == 9) (no 32 apart.not_space) (no 9 apart.not_tab)) (no 13 apart.not_cr) in
-        ap (step again) e ∙ cond_false (b == close) _ _ (no close apart.not_close) ∙ cond_true (class b) _ _ d.2 ∙ rec (omega (arith, ap length e)))
+        ap (step again) e ∙ cond-false (b == close) _ _ (no close apart.not_close) ∙ cond-true (class b) _ _ d.2 ∙ rec (omega (arith, ap length e)))
         (λ c. ⊎_elim
         (λ q.
         let z = seq_out q in
         let e = here s z.0 92 m (byte_out z.1) p.1 refl refl in
         let g = one_complete quotable z.0 v z.2 in
-        ap (step again) e ∙ cond_false (92 == close) _ _ apart.closes_pair ∙ cond_false (class 92) _ _ apart.not_pair
+        ap (step again) e ∙ cond-false (92 == close) _ _ apart.closes_pair ∙ cond-false (class 92) _ _ apart.not_pair
         ∙ ap (λ o. bind o (λ x. again (fws x))) g ∙ rec (omega (arith, ap length e, one_shortens quotable z.0 v g)))
         (λ i.
         let z = known.complete m v i in
         let e = here s z.0 40 m z.1 p.1 refl refl in
-        ap (step again) e ∙ cond_false (40 == close) _ _ apart.closes_opening ∙ cond_false (class 40) _ _ (apart.not_opening m v i)
+        ap (step again) e ∙ cond-false (40 == close) _ _ apart.closes_opening ∙ cond-false (class 40) _ _ (apart.not_opening m v i)
         ∙ ap (λ o. bind o (λ x. again (fws x))) z.2 ∙ rec (omega (arith, ap length e, known.short z.0 v z.2)))
         (alt_out c))
         (alt_out p.2)

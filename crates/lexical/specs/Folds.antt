@@ -1,7 +1,7 @@
 -- [FWS]: what is left behind it.
 use Rattle.std.specs.Prelude.{◌≡◌, ℕ, ◌≤◌, Bool, ◌⊎◌, List, [], ◌∷◌, length, Some, None, ◌==◌, refl}
 use Rattle.std.proofs.Common.{⊎_elim, sym, ap, subst, ◌∙◌, arith}
-use Rattle.std.proofs.lemmas.Bool.{cond_true}
+use Rattle.std.proofs.lemmas.Bool.{cond-true}
 use Rattle.fields.specs.Classes.{wsp, behind}
 use Rattle.fields.specs.Scans.{fold_start}
 use Rattle.fields.proofs.Folding.{fold_at}
@@ -49,10 +49,10 @@ fold_taken {m} {t} h =
     let p = seq_out h in
     let d = one_out p.1 in
     let r = p.0 in
-    let here : fold_start (13 ∷ 10 ∷ d.0 ∷ r) ≡ Some r = cond_true (wsp d.0) (Some r) None d.2 in
+    let here : fold_start (13 ∷ 10 ∷ d.0 ∷ r) ≡ Some r = cond-true (wsp d.0) (Some r) None d.2 in
     ap (λ l. unfolded (fold_start (13 ∷ 10 ∷ l)) (13 ∷ 10 ∷ l)) d.1
     ∙ ap (λ o. unfolded o (13 ∷ 10 ∷ d.0 ∷ r)) here
-    ∙ sym (ap (behind wsp) d.1 ∙ cond_true (wsp d.0) (behind wsp r) (d.0 ∷ r) d.2)
+    ∙ sym (ap (behind wsp) d.1 ∙ cond-true (wsp d.0) (behind wsp r) (d.0 ∷ r) d.2)
 
 fws_stays : (t : List ℕ) → Off wsp t → Off is_cr t → (s : List ℕ) → behind wsp s ≡ t → fws s ≡ t
 fws_stays t w r s here = ap (λ l. unfolded (fold_start l) l) here ∙ ap (λ o. unfolded o t) (no_fold t r)

@@ -1,7 +1,7 @@
 -- A token with [CFWS] on both sides.
 use Rattle.std.specs.Prelude.{◌≡◌, ℕ, suc, ◌+◌, ◌-◌, ◌<◌, ◌≤◌, Bool, true, false, ◌||◌, ◌⊎◌, List, [], ◌∷◌, ◌++◌, length, Some, ◌==◌, slice_index, refl}
 use Rattle.std.proofs.Common.{inl, inr, ⊎_elim, sym, ap, subst, ◌∙◌, arith, length-append, take_at}
-use Rattle.std.proofs.lemmas.Bool.{cond_both, cond_true, cond_false, eqb-true, eq-eqb, or_from, or_left, or_cases}
+use Rattle.std.proofs.lemmas.Bool.{cond_both, cond-true, cond-false, eqb-true, eq-eqb, or_from, or_left, or_cases}
 use Rattle.fields.specs.Classes.{wsp}
 use Rattle.fields.specs.Fields.{Placed}
 use Rattle.fields.proofs.Patterns.{tail, one_ahead}
@@ -142,7 +142,7 @@ pub record Opened (inner : List ℕ → Left) (T : Rule) : Type 0 where
 
 module _ (n : ℕ) (inner plain : List ℕ → Left) where
   pub opened : (s : List ℕ) → 1 ≤ length s → slice_index s 0 ≡ n → either n inner plain s ≡ inner (tail 1 s)
-  opened s h e = ap (either n inner plain) (one_ahead s h) ∙ cond_true (slice_index s 0 == n) (inner (tail 1 s)) _ (eq-eqb _ _ e)
+  opened s h e = ap (either n inner plain) (one_ahead s h) ∙ cond-true (slice_index s 0 == n) (inner (tail 1 s)) _ (eq-eqb _ _ e)
 
   pub either_shortens : Shortens inner → Shortens plain → Shortens (either n inner plain)
   either_shortens hi hp [] t e = hp [] t e
@@ -161,14 +161,14 @@ module _ (n : ℕ) (inner plain : List ℕ → Left) where
     skipped : (u v : List ℕ) → At A u v → either n inner plain u ≡ plain u
     skipped u v h =
         let d = first u v h in
-        ap (either n inner plain) d.2 ∙ cond_false (d.0 == n) (inner d.1) (plain (d.0 ∷ d.1)) d.3 ∙ ap plain (sym d.2)
+        ap (either n inner plain) d.2 ∙ cond-false (d.0 == n) (inner d.1) (plain (d.0 ∷ d.1)) d.3 ∙ ap plain (sym d.2)
 
     pub either_reads : Reads (either n inner plain) (A ∕ (byte n ⋅ T)) on
     either_reads = record {
       sound = either_sound;
       complete = λ u v h o. ⊎_elim
           (λ d. skipped u v d ∙ other.complete u v d o)
-          (λ q. let p = seq_out q in ap (either n inner plain) (byte_out p.1) ∙ cond_true (n == n) (inner p.0) (plain (n ∷ p.0)) (eq-eqb n n refl) ∙ known.complete p.0 v p.2)
+          (λ q. let p = seq_out q in ap (either n inner plain) (byte_out p.1) ∙ cond-true (n == n) (inner p.0) (plain (n ∷ p.0)) (eq-eqb n n refl) ∙ known.complete p.0 v p.2)
           (alt_out h);
       begins = λ u v h. ⊎_elim
           (λ d. other.begins u v d)

@@ -6,7 +6,7 @@ ghost use Rattle.lexical.specs.Tokens.{word_shortens};
 
 use crate::span::Reader;
 use crate::white::skip_fws;
-use abnf::classes::{skip_one, skip_some};
+use abnf::classes::{Atext, Qtext, Quotable, skip_one, skip_some};
 use fields::bytes::Class;
 
 // What is left behind a quoted-string whose first quote was read.
@@ -17,8 +17,8 @@ pub fn skip_quoted<'a>(s: &'a [u8]) -> Option<&'a [u8]>
     while let [b, tail @ ..] = rest {
         let next = match *b {
             b'"' => return Some(tail),
-            b'\\' => skip_one::<abnf::classes::Quotable>(tail)?,
-            _ if <abnf::classes::Qtext as Class>::holds(*b) => tail,
+            b'\\' => skip_one::<Quotable>(tail)?,
+            _ if Qtext::holds(*b) => tail,
             _ => return None,
         };
         rest = skip_fws(next);
@@ -37,7 +37,7 @@ impl Reader for Word {
     fn read<'a>(s: &'a [u8]) -> Option<&'a [u8]> {
         match s {
             [b'"', tail @ ..] => skip_quoted(tail),
-            _ => skip_some::<abnf::classes::Atext>(s),
+            _ => skip_some::<Atext>(s),
         }
     }
 }

@@ -53,7 +53,7 @@ pub struct Taken<'a> {
 
 // The token that `s` begins with, with [CFWS] on both sides.
 pub fn around<'a, R: Reader>(s: &'a [u8]) -> Option<Taken<'a>>
-    ensures { option_map taken result ≡ token_of leaves s.now }
+    ensures { option_map taken result ≡ token_of R.leaves s.now }
 {
     let from = skip_cfws(s)?;
     let to = R::read(from)?;

@@ -4,8 +4,8 @@ ghost use Rattle.std.specs.Option.{option_map};
 ghost use Rattle.lexical.specs.Reads.{fws, comment_rest, comment_behind, comments_behind, cfws};
 ghost use Rattle.lexical.specs.Exact.{CommentExactly, CfwsExactly};
 
-use abnf::classes::skip_one;
-use fields::bytes::{Class, skip};
+use abnf::classes::{Ctext, Quotable, skip_one};
+use fields::bytes::{Class, Wsp, skip};
 use fields::line::fold_start;
 
 // How deep comments may be nested.
@@ -15,9 +15,9 @@ pub const DEEPEST: u8 = 16;
 pub fn skip_fws<'a>(s: &'a [u8]) -> &'a [u8]
     ensures { result.now ≡ fws s.now }
 {
-    let rest = skip::<fields::bytes::Wsp>(s);
+    let rest = skip::<Wsp>(s);
     match fold_start(rest) {
-        Some(line) => skip::<fields::bytes::Wsp>(line),
+        Some(line) => skip::<Wsp>(line),
         None => rest,
     }
 }
@@ -34,8 +34,8 @@ fn comment<'a>(s: &'a [u8], depth: u8) -> Option<&'a [u8]>
         let next = match *b {
             b')' => return Some(tail),
             b'(' => comment(tail, depth - 1)?,
-            b'\\' => skip_one::<abnf::classes::Quotable>(tail)?,
-            _ if <abnf::classes::Ctext as Class>::holds(*b) => tail,
+            b'\\' => skip_one::<Quotable>(tail)?,
+            _ if Ctext::holds(*b) => tail,
             _ => return None,
         };
         rest = skip_fws(next);

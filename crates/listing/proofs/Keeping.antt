@@ -1,6 +1,6 @@
 -- With room for every field that a walk may tell, all are kept.
 use Rattle.std.proofs.Common.{◌≡◌, ℕ, suc, ◌<◌, ◌≤◌, cond, ltb, List, [], ◌∷◌, ◌++◌, map, length, Ok, Err, Result, sym, refl, ap, ◌∙◌, subst, ⊎_elim, arith}
-use Rattle.std.proofs.lemmas.Bool.{cond_true, cond_false, cases_Bool, lt-ltb, le-ltb, ltb-false}
+use Rattle.std.proofs.lemmas.Bool.{cond-true, cond-false, cases_Bool, lt-ltb, le-ltb, ltb-false}
 use Rattle.std.proofs.lemmas.List.{append_assoc, append-nil, length_push, length-map, map_push}
 use Rattle.fields.specs.declared.field.Form.{Form}
 use Rattle.fields.specs.declared.part.Field.{Field}
@@ -22,12 +22,12 @@ kept room room' items more f h e same =
     let l : length fs < room = let x : length fs ≡ length items = length-map items placed_field in omega arith in
     ap (λ n. Ok (record { room = n; fields = map placed_field more })) same
     ∙ ap (λ gs. Ok (record { room = room; fields = gs })) (ap (map placed_field) e ∙ map_push placed_field items f)
-    ∙ ap Ok (sym (cond_true (ltb (length fs) room) (record { room = room; fields = fs ++ placed_field f ∷ [] }) (record { room = room; fields = fs }) (lt-ltb (length fs) room l)))
+    ∙ ap Ok (sym (cond-true (ltb (length fs) room) (record { room = room; fields = fs ++ placed_field f ∷ [] }) (record { room = room; fields = fs }) (lt-ltb (length fs) room l)))
 
 pub not_kept : (room : ℕ) (items : List Field) (f : Field) → room ≤ length items → Ok (record { room = room; fields = map placed_field items }) ≡ keep (record { room = room; fields = map placed_field items }) (placed_field f)
 not_kept room items f h =
     let l : room ≤ length (map placed_field items) = let x : length (map placed_field items) ≡ length items = length-map items placed_field in omega arith in
-    ap Ok (sym (cond_false (ltb (length (map placed_field items)) room) (record { room = room; fields = map placed_field items ++ placed_field f ∷ [] }) (record { room = room; fields = map placed_field items }) (le-ltb (length (map placed_field items)) room l)))
+    ap Ok (sym (cond-false (ltb (length (map placed_field items)) room) (record { room = room; fields = map placed_field items ++ placed_field f ∷ [] }) (record { room = room; fields = map placed_field items }) (le-ltb (length (map placed_field items)) room l)))
 
 abbrev in_room : ℕ → List PlacedField → Roomy
 in_room room fs = record { room = room; fields = fs }
@@ -45,14 +45,14 @@ module _ (room : ℕ) (h : most_fields ≤ room) where
       let on = told appended (suc n) more fs e in
       let on-kept = told keep (suc n) (cond (ltb (length acc) room) (in_room room more) (in_room room acc)) fs e in
       ⊎_elim
-      (λ y. cond_true (ltb most_fields n) none_kept on-kept y ∙ sym (ap (meaning (in_room room)) (cond_true (ltb most_fields n) none on y)))
+      (λ y. cond-true (ltb most_fields n) none_kept on-kept y ∙ sym (ap (meaning (in_room room)) (cond-true (ltb most_fields n) none on y)))
       (λ y.
       let few = ltb-false most_fields n y in
       let size = length_push acc f in
-      cond_false (ltb most_fields n) none_kept on-kept y
-      ∙ ap (λ k. told keep (suc n) k fs e) (cond_true (ltb (length acc) room) (in_room room more) (in_room room acc) (lt-ltb (length acc) room (omega arith)))
+      cond-false (ltb most_fields n) none_kept on-kept y
+      ∙ ap (λ k. told keep (suc n) k fs e) (cond-true (ltb (length acc) room) (in_room room more) (in_room room acc) (lt-ltb (length acc) room (omega arith)))
       ∙ told_kept (suc n) more fs e (omega arith)
-      ∙ sym (ap (meaning (in_room room)) (cond_false (ltb most_fields n) none on y)))
+      ∙ sym (ap (meaning (in_room room)) (cond-false (ltb most_fields n) none on y)))
       (cases_Bool (ltb most_fields n))
 
   pub walked_kept : (form : Form) (s : List ℕ) → walked keep (in_room room []) form s ≡ meaning (in_room room) (listed form s)
@@ -64,8 +64,8 @@ module _ (room : ℕ) (h : most_fields ≤ room) where
       let all = told appended 1 [] c.fields c.ending in
       let all-kept = told keep 1 (in_room room []) c.fields c.ending in
       ⊎_elim
-      (λ y. cond_true (ltb longest_input (length s)) long_kept all-kept y ∙ sym (ap (meaning (in_room room)) (cond_true (ltb longest_input (length s)) long all y)))
-      (λ y. cond_false (ltb longest_input (length s)) long_kept all-kept y ∙ told_kept 1 [] c.fields c.ending (omega arith) ∙ sym (ap (meaning (in_room room)) (cond_false (ltb longest_input (length s)) long all y)))
+      (λ y. cond-true (ltb longest_input (length s)) long_kept all-kept y ∙ sym (ap (meaning (in_room room)) (cond-true (ltb longest_input (length s)) long all y)))
+      (λ y. cond-false (ltb longest_input (length s)) long_kept all-kept y ∙ told_kept 1 [] c.fields c.ending (omega arith) ∙ sym (ap (meaning (in_room room)) (cond-false (ltb longest_input (length s)) long all y)))
       (cases_Bool (ltb longest_input (length s)))
 
 -- what the walk with such a collector gave is the list, or its refusal

@@ -1,4 +1,6 @@
 // The list of an input's fields.
+#![tactic(auto)]
+
 ghost use Rattle.std.specs.Prelude.{◌≡◌};
 ghost use Rattle.listing.specs.declared.Unlisted.TheVariants.{Memory, Refused as RefusedFor};
 ghost use Rattle.listing.specs.Listed.{listed, Holds, ListedExactly};

@@ -1,7 +1,7 @@
 -- What values mean.
 use Rattle.std.proofs.Common.{◌≡◌, ℕ, suc, ◌<◌, ◌≤◌, Bool, true, false, ◌&&◌, eqb, List, [], ◌∷◌, length, get_or, sym, refl, ap, ◌∙◌, subst, arith}
 use Rattle.std.specs.Char.{to_ascii_lowercase}
-use Rattle.std.proofs.lemmas.Bool.{cond_true, cond_false, and_from, and_left, eq-eqb, ne_eqb}
+use Rattle.std.proofs.lemmas.Bool.{cond-true, cond-false, and_from, and_left, eq-eqb, ne_eqb}
 use Rattle.fields.specs.Classes.{wsp}
 use Rattle.fields.proofs.Patterns.{tail, one_ahead, two_ahead}
 use Rattle.abnf.proofs.Operators.{differs}
@@ -12,9 +12,9 @@ use Rattle.abnf.specs.Strings.{alike}
 
 -- ---- byte by byte
 pub between_plain : (a : ℕ) (s : List ℕ) → eqb a 34 ≡ false → eqb a 92 ≡ false → (eqb a 13 && at_fold s) ≡ false → between (a ∷ s) ≡ a ∷ between s
-between_plain a [] quote pair fold = cond_false (eqb a 34) [] (a ∷ []) quote
+between_plain a [] quote pair fold = cond-false (eqb a 34) [] (a ∷ []) quote
 between_plain a (b ∷ s) quote pair fold =
-    cond_false (eqb a 34) _ _ quote ∙ cond_false (eqb a 92) _ _ pair ∙ cond_false (eqb a 13 && at_fold (b ∷ s)) _ _ fold
+    cond-false (eqb a 34) _ _ quote ∙ cond-false (eqb a 92) _ _ pair ∙ cond-false (eqb a 13 && at_fold (b ∷ s)) _ _ fold
 
 pub between_pair : (s : List ℕ) → 1 ≤ length s → between (92 ∷ s) ≡ get_or s 0 0 ∷ between (tail 1 s)
 between_pair s h = ap (λ l. between (92 ∷ l)) (one_ahead s h)
@@ -24,7 +24,7 @@ between_fold s h lf white =
     let w = get_or s 1 0 in
     let off : (n : ℕ) → wsp n ≡ false → eqb w n ≡ false = λ n e. differs wsp n w e white in
     ap (λ l. between (13 ∷ l)) (two_ahead s h)
-    ∙ cond_true (at_fold (get_or s 0 0 ∷ w ∷ tail 2 s)) _ _ (and_from (eqb (get_or s 0 0) 10) (wsp w) (eq-eqb _ _ lf) white)
+    ∙ cond-true (at_fold (get_or s 0 0 ∷ w ∷ tail 2 s)) _ _ (and_from (eqb (get_or s 0 0) 10) (wsp w) (eq-eqb _ _ lf) white)
     ∙ between_plain w (tail 2 s) (off 34 refl) (off 92 refl) (and_left (eqb w 13) _ (off 13 refl))
 
 pub next_at : {m : Meant} (s : List ℕ) (n : ℕ) → 1 ≤ length s → get_or s 0 0 ≡ n → Next (n ∷ tail 1 s) m → Next s m
@@ -61,4 +61,4 @@ module _ (whole : Bool) (rest left : List ℕ) (same : alike (between rest) left
       differ e = rw e at beside
 
 pub unquoted_ahead : (s : List ℕ) → 1 ≤ length s → get_or s 0 0 ≡ 34 → unquoted s ≡ between (tail 1 s)
-unquoted_ahead s h e = ap unquoted (one_ahead s h) ∙ cond_true (eqb (get_or s 0 0) 34) _ _ (eq-eqb _ _ e)
+unquoted_ahead s h e = ap unquoted (one_ahead s h) ∙ cond-true (eqb (get_or s 0 0) 34) _ _ (eq-eqb _ _ e)

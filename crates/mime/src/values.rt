@@ -5,7 +5,7 @@ ghost use Rattle.abnf.specs.Strings.{alike};
 ghost use Rattle.mime.specs.Meanings.{Next, Goes_on};
 
 use abnf::strings::is_alike;
-use fields::bytes::Class;
+use fields::bytes::{Class, Wsp};
 
 // A byte that a text between quotes means, and what is left behind it.
 #[derive(Clone, Copy)]
@@ -32,10 +32,7 @@ fn behind_cr<'a>(tail: &'a [u8]) -> Meant<'a>
     ensures { Next (13 ∷ tail.now) result }
 {
     match tail {
-        [b'\n', byte, rest @ ..] if <fields::bytes::Wsp as Class>::holds(*byte) => Meant {
-            byte: *byte,
-            rest,
-        },
+        [b'\n', byte, rest @ ..] if Wsp::holds(*byte) => Meant { byte: *byte, rest },
         _ => Meant {
             byte: b'\r',
             rest: tail,

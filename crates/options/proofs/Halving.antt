@@ -1,7 +1,7 @@
 -- The two sides of the last "=".
 use Rattle.std.proofs.Common.{◌≡◌, ℕ, ◌+◌, ◌-◌, ◌<◌, ◌≤◌, Bool, true, not, eqb, List, [], ◌∷◌, ◌++◌, length, get_or, take, drop, Some, None, Option, sym, refl, ap, ◌∙◌, subst, append_assoc, append-nil, arith, length-take, take_all}
 use Rattle.std.proofs.lemmas.List.{take_more, take_rest, drop_at}
-use Rattle.std.proofs.lemmas.Bool.{cond_both, cond_false, and_parts, and_from, not-true, eqb-true, ne_eqb, not_from_false}
+use Rattle.std.proofs.lemmas.Bool.{cond_both, cond-false, and_parts, and_from, not-true, eqb-true, ne_eqb, not_from_false}
 use Rattle.fields.specs.Classes.{every}
 use Rattle.abnf.proofs.Options.{none_some, some_same}
 use Rattle.options.specs.Reads.{Sides, wider, sides_of}
@@ -25,7 +25,7 @@ sides_sound (b ∷ s) h e = wider_sound b s (sides_of s) (sides_sound s) h e
 
 sides_none : (s : List ℕ) → every no_equals s ≡ true → sides_of s ≡ None
 sides_none [] h = refl
-sides_none (b ∷ s) h = let x = and_parts (no_equals b) (every no_equals s) h in ap (wider b s) (sides_none s x.1) ∙ cond_false (eqb b 61) _ _ (not-true (eqb b 61) x.0)
+sides_none (b ∷ s) h = let x = and_parts (no_equals b) (every no_equals s) h in ap (wider b s) (sides_none s x.1) ∙ cond-false (eqb b 61) _ _ (not-true (eqb b 61) x.0)
 
 pub sides_complete : (l r : List ℕ) → every no_equals r ≡ true → sides_of (l ++ 61 ∷ r) ≡ Some (record { left = l; right = r })
 sides_complete [] r h = ap (wider 61 r) (sides_none r h)

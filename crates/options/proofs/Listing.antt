@@ -1,7 +1,7 @@
 -- One or more, parted by a byte: the loop over them, and the rule.
 use Rattle.std.proofs.Common.{◌≡◌, ℕ, zero, suc, ◌<◌, ◌≤◌, true, eqb, List, [], ◌∷◌, length, get_or, Some, None, Option, sym, refl, ap, ◌∙◌, subst, arith}
 use Rattle.std.specs.Option.{option_map}
-use Rattle.std.proofs.lemmas.Bool.{cond_both, cond_true, cond_false, eqb-true, eq-eqb}
+use Rattle.std.proofs.lemmas.Bool.{cond_both, cond-true, cond-false, eqb-true, eq-eqb}
 use Rattle.fields.specs.Clean.{clean}
 use Rattle.fields.proofs.Patterns.{tail, one_ahead}
 use Rattle.abnf.specs.Abnf.{Rule, ◌⋅◌, opt, byte, each, At}
@@ -51,7 +51,7 @@ module _ {X : Type 0} (n : ℕ) (one : List ℕ → Option (Read X)) where
 
   module _ {Y : Type 0} (ask : Read (List X) → Option Y) (whole : Option Y) (s : List ℕ) (g : Telling n one ask s whole) (some : 1 ≤ length s) (parted : get_or s 0 0 ≡ n) where
     next : bind (bind (one (tail 1 s)) (followed onto (turns step g.fuel))) ask ≡ whole
-    next = sym (ap (λ r. bind r ask) (ap (step (turns step g.fuel)) (one_ahead s some) ∙ cond_true (eqb (get_or s 0 0) n) _ _ (eq-eqb _ _ parted))) ∙ g.same
+    next = sym (ap (λ r. bind r ask) (ap (step (turns step g.fuel)) (one_ahead s some) ∙ cond-true (eqb (get_or s 0 0) n) _ _ (eq-eqb _ _ parted))) ∙ g.same
 
     pub next_told : (x : Read X) → one (tail 1 s) ≡ Some x → length x.rest ≤ length (tail 1 s) → Told n one (λ xs. ask (onto x.told xs)) s x.rest whole
     next_told x e short =
@@ -105,12 +105,12 @@ module _ {X : Type 0} (n : ℕ) (one : List ℕ → Option (Read X)) where
       over : (t : List ℕ) → Off (λ b. eqb b n) t → (k : ℕ) → length t < k → turns step k t ≡ Some (record { told = []; rest = t })
       over t h zero less = absurd (omega arith)
       over [] h (suc k) less = refl
-      over (b ∷ t) h (suc k) less = cond_false (eqb b n) _ _ h
+      over (b ∷ t) h (suc k) less = cond-false (eqb b n) _ _ h
 
       on : (x : X) (xs : List X) (u v t : List ℕ) → one u ≡ Some (record { told = x; rest = v }) → ((k : ℕ) → length v < k → turns step k v ≡ Some (record { told = xs; rest = t })) → (k : ℕ) → length (n ∷ u) < k → turns step k (n ∷ u) ≡ Some (record { told = x ∷ xs; rest = t })
       on x xs u v t e h zero less = absurd (omega arith)
       on x xs u v t e h (suc k) less =
-          cond_true (eqb n n) _ _ (eq-eqb n n refl)
+          cond-true (eqb n n) _ _ (eq-eqb n n refl)
           ∙ ap (λ o. bind o (followed onto (turns step k))) e
           ∙ ap (option_map (onto x)) (h k (omega (arith, short u (record { told = x; rest = v }) e)))
 

@@ -4,7 +4,7 @@ ghost use Rattle.std.specs.Option.{option_map};
 ghost use Rattle.options.specs.Reads.{atom_of, sides_of, sides, marking_of};
 
 use crate::importance::{Importance, importance_of};
-use abnf::classes::skip_some;
+use abnf::classes::{Atext, skip_some};
 use lexical::span::Span;
 use lexical::white::skip_fws;
 
@@ -12,7 +12,7 @@ use lexical::white::skip_fws;
 fn read_atom<'a>(s: &'a [u8]) -> Option<&'a [u8]>
     ensures { option_map (λ x. x.now) result ≡ atom_of s.now }
 {
-    let to = skip_some::<abnf::classes::Atext>(s)?;
+    let to = skip_some::<Atext>(s)?;
     if skip_fws(to).is_empty() {
         Some(Span { from: s, to }.text())
     } else {

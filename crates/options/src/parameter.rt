@@ -7,6 +7,7 @@ use crate::importance::Importance;
 use crate::marking::read_marking;
 use abnf::classes::skip_byte;
 use fields::bytes::{Class, skip};
+use lexical::quoted::Word;
 use lexical::span::{Span, around};
 use lexical::white::skip_fws;
 
@@ -25,10 +26,10 @@ impl Class for NoComma {
 fn skip_values<'a>(s: &'a [u8]) -> Option<&'a [u8]>
     ensures { option_map (λ x. x.now) result ≡ option_map (λ v. v.rest) (values_of s.now) }
 {
-    let first = around::<lexical::quoted::Word>(skip_byte(s, b',')?)?;
+    let first = around::<Word>(skip_byte(s, b',')?)?;
     let mut rest = first.rest;
     while let [b',', tail @ ..] = rest {
-        let next = around::<lexical::quoted::Word>(tail)?;
+        let next = around::<Word>(tail)?;
         rest = next.rest;
     }
     Some(rest)

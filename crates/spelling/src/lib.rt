@@ -1,4 +1,6 @@
 // How the cases spell their bytes: `~` is CRLF, `{3*ab}` is `ababab`; `\r`, `\n`, `\t`, `\0` and `\h` are CR, LF, tab, NUL and 233; behind `\` any other byte is itself.
+#![tactic(auto)]
+
 use std::alloc::{AllocError, Global};
 
 #[derive(Clone, Copy)]

@@ -1,6 +1,6 @@
 -- Text and folds, from the front.
 use Rattle.std.proofs.Common.{◌≡◌, ℕ, ◌<◌, true, false, ◌&&◌, eqb, List, [], ◌∷◌, length, Some, None, sym, refl, ap, ◌∙◌, subst, ⊎_elim, arith}
-use Rattle.std.proofs.lemmas.Bool.{cond_both, cond_true, cond_false, and_left, or_cases, eqb-true, ne_eqb}
+use Rattle.std.proofs.lemmas.Bool.{cond_both, cond-true, cond-false, and_left, or_cases, eqb-true, ne_eqb}
 use Rattle.fields.specs.Classes.{wsp, behind}
 use Rattle.fields.specs.Scans.{fold_start}
 use Rattle.fields.proofs.Folding.{fold_at, fold_size}
@@ -16,7 +16,7 @@ pub text_more : (b : ℕ) (s : List ℕ) → text b ≡ true → is_text (b ∷ 
 unfolding is_text
 text_more b [] e = e
 text_more b (c ∷ []) e = ap (λ v. v && text c) e
-text_more b (c ∷ d ∷ s) e = cond_true (text b) (is_text (c ∷ d ∷ s)) _ e
+text_more b (c ∷ d ∷ s) e = cond-true (text b) (is_text (c ∷ d ∷ s)) _ e
 
 pub fold_more : (w : ℕ) (s : List ℕ) → wsp w ≡ true → is_text (13 ∷ 10 ∷ w ∷ s) ≡ is_text s
 unfolding is_text
@@ -30,7 +30,7 @@ text_stop b (c ∷ []) e f = and_left (text b) (text c) e
 text_stop b (c ∷ d ∷ s) e f =
     let fold = (eqb b 13 && eqb c 10) && wsp d in
     let none : fold ≡ false = cond_both fold (Some s) None (λ o. o ≡ None → fold ≡ false) (λ _ q. absurd (none_some (sym q))) (λ h _. h) f in
-    cond_false (text b) (is_text (c ∷ d ∷ s)) (fold && is_text s) e ∙ and_left fold (is_text s) none
+    cond-false (text b) (is_text (c ∷ d ∷ s)) (fold && is_text s) e ∙ and_left fold (is_text s) none
 
 -- ---- the turns of the reader
 -- what is left of s, behind text

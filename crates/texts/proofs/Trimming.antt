@@ -2,7 +2,7 @@
 use Rattle.std.proofs.Common.{◌≡◌, ℕ, ◌+◌, ◌-◌, ◌<◌, ◌≤◌, true, false, ◌&&◌, ◌||◌, eqb, List, [], ◌∷◌, ◌++◌, length, get_or, take, sym, refl, ap, ◌∙◌, subst, ⊎_elim, arith, take_all}
 use mathlib.Core.Bool.{or-false}
 use Rattle.std.proofs.lemmas.List.{take_more}
-use Rattle.std.proofs.lemmas.Bool.{cond_both, cond_true, cond_false, and_parts, or_left, or_from, both_ways, eqb-true}
+use Rattle.std.proofs.lemmas.Bool.{cond_both, cond-true, cond-false, and_parts, or_left, or_from, both_ways, eqb-true}
 use Rattle.fields.specs.Classes.{wsp}
 use Rattle.abnf.specs.Abnf.{star.done, star.more, one, At}
 use Rattle.abnf.specs.Classes.{text}
@@ -20,12 +20,12 @@ last_of s h =
 
 trim_last : (s : List ℕ) (b : ℕ) → blank b ≡ true → trim (s ++ (b ∷ [])) ≡ trim s
 unfolding trim
-trim_last [] b e = cond_true (blank b) [] (b ∷ []) e
+trim_last [] b e = cond-true (blank b) [] (b ∷ []) e
 trim_last (a ∷ s) b e = ap (glue a) (trim_last s b e)
 
 trim_stop : (s : List ℕ) (b : ℕ) → blank b ≡ false → trim (s ++ (b ∷ [])) ≡ s ++ (b ∷ [])
 unfolding trim
-trim_stop [] b e = cond_false (blank b) [] (b ∷ []) e
+trim_stop [] b e = cond-false (blank b) [] (b ∷ []) e
 trim_stop (a ∷ s) b e = ap (glue a) (trim_stop s b e) ∙ stuck s
   where
     stuck : (s : List ℕ) → glue a (s ++ (b ∷ [])) ≡ a ∷ (s ++ (b ∷ []))
@@ -62,7 +62,7 @@ more_text b [] s e p =
 more_text b (c ∷ x) s e p = record { ends = p.ends; pieces = one_more (alt_left (one_in e)) p.pieces; rest = p.rest; is = ap (λ l. b ∷ l) p.is; white = p.white }
 
 wsp_blank : (b : ℕ) → wsp b ≡ true → glue b [] ≡ []
-wsp_blank b e = cond_true (blank b) [] (b ∷ []) (or_left (wsp b) _ e)
+wsp_blank b e = cond-true (blank b) [] (b ∷ []) (or_left (wsp b) _ e)
 
 more_fold : (b : ℕ) (x s : List ℕ) → wsp b ≡ true → Parted x s → Parted (glue 13 (glue 10 (glue b x))) (13 ∷ 10 ∷ b ∷ s)
 more_fold b [] s e p =
@@ -106,7 +106,7 @@ trim_white (one_more {s} {m} {t} a r) e =
 module _ (white : List ℕ) (e : trim white ≡ []) where
   keep_text : (b : ℕ) (x : List ℕ) → text b ≡ true → Ends (b ∷ x) → (Ends x → trim (x ++ white) ≡ x) → trim (b ∷ x ++ white) ≡ b ∷ x
   unfolding trim
-  keep_text b [] t h ih = ap (glue b) e ∙ cond_false (blank b) [] (b ∷ []) (blank_text b t ∙ h)
+  keep_text b [] t h ih = ap (glue b) e ∙ cond-false (blank b) [] (b ∷ []) (blank_text b t ∙ h)
   keep_text b (c ∷ x) t h ih = ap (glue b) (ih h)
 
   keep_fold : (b : ℕ) (x : List ℕ) → wsp b ≡ true → Ends (13 ∷ 10 ∷ b ∷ x) → (Ends x → trim (x ++ white) ≡ x) → trim (13 ∷ 10 ∷ b ∷ x ++ white) ≡ 13 ∷ 10 ∷ b ∷ x

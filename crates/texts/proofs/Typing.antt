@@ -1,7 +1,7 @@
 -- A body of the form type ";" text.
 use Rattle.std.proofs.Common.{◌≡◌, ℕ, ◌+◌, ◌-◌, true, List, ◌∷◌, length, Some, None, Option, sym, refl, ap, ◌∙◌, subst, arith, length-append}
 use Rattle.std.specs.Option.{option_map}
-use Rattle.std.proofs.lemmas.Bool.{cond_both, cond_true}
+use Rattle.std.proofs.lemmas.Bool.{cond_both, cond-true}
 use Rattle.fields.specs.Clean.{clean}
 use Rattle.fields.specs.Fields.{Placed}
 use Rattle.abnf.specs.Abnf.{Rule, At}
@@ -41,7 +41,7 @@ text_in_sound s w x apart e =
 pub text_in_complete : (s w : List ℕ) (x : Placed) → length s - length w ≡ x.at → text_to_end x.bytes w → text_in s w ≡ Some x
 text_in_complete s w x e h =
     let z = text_complete w x.bytes h in
-    cond_true (is_text w) _ None z.0
+    cond-true (is_text w) _ None z.0
     ∙ ap (λ n. Some (record { at = n; bytes = trim w })) e
     ∙ ap (λ l. Some (record { at = x.at; bytes = l })) z.1
 

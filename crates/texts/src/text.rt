@@ -2,6 +2,7 @@
 ghost use Rattle.std.specs.Prelude.{◌≡◌};
 ghost use Rattle.texts.specs.Reads.{blank, is_text, trim};
 
+use abnf::classes::Text;
 use fields::bytes::skip;
 use fields::line::fold_start;
 
@@ -9,9 +10,9 @@ use fields::line::fold_start;
 pub fn is_text(s: &[u8]) -> bool
     ensures { result ≡ is_text s.now }
 {
-    let mut rest = skip::<abnf::classes::Text>(s);
+    let mut rest = skip::<Text>(s);
     while let Some(line) = fold_start(rest) {
-        rest = skip::<abnf::classes::Text>(line);
+        rest = skip::<Text>(line);
     }
     rest.is_empty()
 }

@@ -12,7 +12,7 @@ ghost use Rattle.texts.specs.Seen.{typed, moved_typed};
 ghost use Rattle.abnf.proofs.Runs.{some_shortens};
 
 use crate::text::{is_text, trimmed};
-use abnf::classes::{skip_byte, skip_some};
+use abnf::classes::{Atext, skip_byte, skip_some};
 use fields::part::Part;
 use lexical::span::{Reader, around};
 use lexical::white::skip_cfws;
@@ -33,7 +33,7 @@ impl Reader for Atom {
     ghost shorter = { some_shortens atext };
 
     fn read<'a>(s: &'a [u8]) -> Option<&'a [u8]> {
-        skip_some::<abnf::classes::Atext>(s)
+        skip_some::<Atext>(s)
     }
 }
 

@@ -8,7 +8,7 @@ use Rattle.std.proofs.lemmas.Bool.Decides.{Decides-eqb}
 
 pub returns-then-eq : goal.returns-then-eq
 returns-then-eq c =
-    c.is-alike.ensures ∙ same_by (addr c.args.a) (addr c.args.b) ((slice_eq-Decides Decides-eqb c.args.a.local.now c.args.b.local.now c.eq.result c.eq.ensures).0 c.if-eq.true)
+    c.is_alike.ensures ∙ same_by (addr c.args.a) (addr c.args.b) ((slice_eq-Decides Decides-eqb c.args.a.local.now c.args.b.local.now c.eq.result c.eq.ensures).0 c.if-eq.true)
 
 pub returns-else-eq : goal.returns-else-eq
 returns-else-eq c =

@@ -3,4 +3,4 @@ use Rattle.abnf.proofs.Spelling.{alike_told}
 use Rattle.abnf.proofs.strings.is_alike.Goals as goal
 
 pub returns : goal.returns
-returns c = alike_told _ c.args.text.now c.args.known.now (cases_from_iff c.eq-ignore-ascii-case.ensures.test)
+returns c = alike_told _ c.args.text.now c.args.known.now (cases_from_iff c.eq_ignore_ascii_case.ensures.test)

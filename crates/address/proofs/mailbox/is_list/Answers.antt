@@ -7,13 +7,13 @@ use Rattle.address.proofs.mailbox.is_list.Goals as goal
 pub loop-found-init : goal.loop-found-init
 loop-found-init c = counting_starts c.args.body.now
 
-pub returns-then-count-eq-MOST-ADDRESSES : goal.returns-then-count-eq-MOST-ADDRESSES
-returns-then-count-eq-MOST-ADDRESSES c =
-    too_many _ c.loop-found.rest.now c.loop-found.count c.loop-found.invariant (found c.in-Some.found) (sym c.in-Some.ensures) c.in-Some-skip-byte.next.now (sym c.in-Some-skip-byte.ensures) c.if-count-eq-MOST-ADDRESSES.true
+pub returns-then-count-eq-MOST_ADDRESSES : goal.returns-then-count-eq-MOST_ADDRESSES
+returns-then-count-eq-MOST_ADDRESSES c =
+    too_many _ c.loop-found.rest.now c.loop-found.count c.loop-found.invariant (found c.in-Some.found) (sym c.in-Some.ensures) c.in-Some-skip_byte.next.now (sym c.in-Some-skip_byte.ensures) c.if-count-eq-MOST_ADDRESSES.true
 
-next : (c : goal.Else-count-eq-MOST-ADDRESSES) → (length c.in-Some-skip-byte.next.now < length c.loop-found.rest.now) × Counting c.in-Some-skip-byte.next.now (c.loop-found.count + 1) (is_some (mailbox_list_of c.args.body.now))
+next : (c : goal.Else-count-eq-MOST_ADDRESSES) → (length c.in-Some-skip_byte.next.now < length c.loop-found.rest.now) × Counting c.in-Some-skip_byte.next.now (c.loop-found.count + 1) (is_some (mailbox_list_of c.args.body.now))
 next c =
-    one_counted _ c.loop-found.rest.now c.loop-found.count c.loop-found.invariant (found c.in-Some.found) (sym c.in-Some.ensures) c.in-Some-skip-byte.next.now (sym c.in-Some-skip-byte.ensures) c.if-count-eq-MOST-ADDRESSES.false
+    one_counted _ c.loop-found.rest.now c.loop-found.count c.loop-found.invariant (found c.in-Some.found) (sym c.in-Some.ensures) c.in-Some-skip_byte.next.now (sym c.in-Some-skip_byte.ensures) c.if-count-eq-MOST_ADDRESSES.false
 
 pub loop-found-smaller : goal.loop-found-smaller
 loop-found-smaller c = (next c).0

@@ -7,8 +7,8 @@ use Rattle.fields.proofs.Accepting.{walk_exactly}
 use Rattle.fields.proofs.Cleaning.{fields_clean}
 use Rattle.fields.proofs.walk.walk.Goals as goal
 
-pub returns-then-input-gt-LONGEST-INPUT : goal.returns-then-input-gt-LONGEST-INPUT
-returns-then-input-gt-LONGEST-INPUT g c =
+pub returns-then-input-gt-LONGEST_INPUT : goal.returns-then-input-gt-LONGEST_INPUT
+returns-then-input-gt-LONGEST_INPUT g c =
     let C = g.C.Collector in
     let is = too_long C.step (C.state c.args.collector) c.args.form c.args.input.now (omega arith) in
     record { walks = is; exactly = walk_exactly C.step (C.state c.args.collector) c.args.form c.args.input.now _ is; clean = fields_clean c.args.form c.args.input.now }
@@ -25,8 +25,8 @@ returns-in-Fault g c =
     let is = ends_at_fault C.step (C.state c.args.collector) c.args.form c.args.input.now c.loop-collector.field (C.state c.loop-collector.collector) c.loop-collector.rest.at c.loop-collector.rest.text.now c.loop-collector.invariant (omega arith) c.in-Fault.byte c.in-Fault.ensures.found in
     record { walks = is; exactly = walk_exactly C.step (C.state c.args.collector) c.args.form c.args.input.now _ is; clean = fields_clean c.args.form c.args.input.now }
 
-pub returns-then-field-gt-MOST-FIELDS : goal.returns-then-field-gt-MOST-FIELDS
-returns-then-field-gt-MOST-FIELDS g c =
+pub returns-then-field-gt-MOST_FIELDS : goal.returns-then-field-gt-MOST_FIELDS
+returns-then-field-gt-MOST_FIELDS g c =
     let C = g.C.Collector in
     let is = ends_crowded C.step (C.state c.args.collector) c.args.form c.args.input.now c.loop-collector.field (C.state c.loop-collector.collector) c.loop-collector.rest.at c.loop-collector.rest.text.now c.loop-collector.invariant (placed_field c.in-First.told) (cut c.args.form None c.in-First.behind.at (texts c.in-First.behind.text.now)) c.in-First.ensures.found (omega arith) (omega arith) in
     record { walks = is; exactly = walk_exactly C.step (C.state c.args.collector) c.args.form c.args.input.now _ is; clean = fields_clean c.args.form c.args.input.now }
@@ -44,4 +44,4 @@ pub loop-collector-preserved : goal.loop-collector-preserved
 loop-collector-preserved g c =
     let C = g.C.Collector in
     let ahead = c.in-First.ensures.ahead in
-    comes_on C.step (C.state c.args.collector) c.args.form c.args.input.now c.loop-collector.field (C.state c.loop-collector.collector) c.loop-collector.rest.at c.loop-collector.rest.text.now c.loop-collector.invariant (placed_field c.in-First.told) c.in-First.behind.at c.in-First.behind.text.now c.in-First.ensures.found ahead.1 (omega arith) (C.state c.take.new.self) c.in-default.ensures
+    comes_on C.step (C.state c.args.collector) c.args.form c.args.input.now c.loop-collector.field (C.state c.loop-collector.collector) c.loop-collector.rest.at c.loop-collector.rest.text.now c.loop-collector.invariant (placed_field c.in-First.told) c.in-First.behind.at c.in-First.behind.text.now c.in-First.ensures.found ahead.1 (omega arith) (C.state c.take.new.self) c.in_default.ensures

@@ -8,15 +8,15 @@ use Rattle.lexical.proofs.white.skip_comments.Goals as goal
 pub loop-rest-init : goal.loop-rest-init
 loop-rest-init c = going_run comments c.args.s.now
 
-pub returns-in-err-skip-comment : goal.returns-in-err-skip-comment
-returns-in-err-skip-comment c =
-    ap (option_map (λ x. x.now)) c.from-residual.ensures
-    ∙ open_comment _ c.loop-rest.rest.now c.loop-rest.invariant (omega (arith, ltb-false)) (omega (arith, tests)) (sym c.in-err-skip-comment.ensures.leaves)
+pub returns-in_err-skip_comment : goal.returns-in_err-skip_comment
+returns-in_err-skip_comment c =
+    ap (option_map (λ x. x.now)) c.from_residual.ensures
+    ∙ open_comment _ c.loop-rest.rest.now c.loop-rest.invariant (omega (arith, ltb-false)) (omega (arith, tests)) (sym c.in_err-skip_comment.ensures.leaves)
 
-turned : (c : goal.After-skip-fws-rest) → Turned comments c.loop-rest.rest.now c.skip-fws-rest.result.now (comments_behind c.args.s.now)
+turned : (c : goal.After-skip_fws-rest) → Turned comments c.loop-rest.rest.now c.skip_fws-rest.result.now (comments_behind c.args.s.now)
 turned c =
-    subst (λ u. Turned comments c.loop-rest.rest.now u (comments_behind c.args.s.now)) (sym c.skip-fws-rest.ensures)
-    (past_comment _ c.loop-rest.rest.now c.loop-rest.invariant (omega (arith, ltb-false)) (omega (arith, tests)) c.in-ok-skip-comment.field-0.now (sym c.in-ok-skip-comment.ensures.leaves))
+    subst (λ u. Turned comments c.loop-rest.rest.now u (comments_behind c.args.s.now)) (sym c.skip_fws-rest.ensures)
+    (past_comment _ c.loop-rest.rest.now c.loop-rest.invariant (omega (arith, ltb-false)) (omega (arith, tests)) c.in_ok-skip_comment.field-0.now (sym c.in_ok-skip_comment.ensures.leaves))
 
 pub loop-rest-smaller : goal.loop-rest-smaller
 loop-rest-smaller c = (turned c).less

@@ -9,7 +9,7 @@ returns-in-10 c = record {
   less = search rules;
 }
 
-pub returns-in-default : goal.returns-in-default
-returns-in-default c =
+pub returns-in_default : goal.returns-in_default
+returns-in_default c =
     let e : at_fold c.args.tail.now ≡ false = search rules in
     record { means = between_plain 13 c.args.tail.now refl refl e; less = omega arith }

@@ -6,13 +6,13 @@ use Rattle.mime.proofs.Unquoting.{between_plain, next_at}
 use Rattle.mime.proofs.values.next_meant.Goals as goal
 
 pub returns-in-92 : goal.returns-in-92
-returns-in-92 c = next_at c.args.s.now 92 (omega (arith, ltb-false)) c.in-92.is c.behind-backslash.ensures
+returns-in-92 c = next_at c.args.s.now 92 (omega (arith, ltb-false)) c.in-92.is c.behind_backslash.ensures
 
 pub returns-in-13 : goal.returns-in-13
-returns-in-13 c = next_at c.args.s.now 13 (omega (arith, ltb-false)) c.in-13.is c.behind-cr.ensures
+returns-in-13 c = next_at c.args.s.now 13 (omega (arith, ltb-false)) c.in-13.is c.behind_cr.ensures
 
-pub returns-in-default-byte : goal.returns-in-default-byte
-returns-in-default-byte c =
+pub returns-in_default-byte : goal.returns-in_default-byte
+returns-in_default-byte c =
     let s = c.args.s.now in
     let b = get_or s 0 0 in
     record {

@@ -3,4 +3,4 @@ use Rattle.options.proofs.Words.{no_importance}
 use Rattle.options.proofs.importance.importance_of.Goals as goal
 
 pub returns : goal.returns
-returns c = no_importance c.args.word.now (cases_from_iff c.if-eq-ignore-ascii-case.ensures.test) (cases_from_iff c.if-eq-ignore-ascii-case-2.ensures.test)
+returns c = no_importance c.args.word.now (cases_from_iff c.if-eq_ignore_ascii_case.ensures.test) (cases_from_iff c.if-eq_ignore_ascii_case-2.ensures.test)

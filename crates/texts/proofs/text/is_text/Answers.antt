@@ -13,4 +13,4 @@ loop-line-preserved c =
     past_skip c.args.s.now c.in-Some.line.now _ (sym (past_fold c.loop-line.rest.now c.in-Some.line.now c.in-Some.ensures) ∙ c.loop-line.invariant.0) c.skip-rest-in-Some.ensures
 
 pub returns : goal.returns
-returns c = c.is-empty.ensures ∙ past_all c.args.s.now c.loop-line.rest.now c.loop-line.invariant (sym c.in-default.ensures)
+returns c = c.is_empty.ensures ∙ past_all c.args.s.now c.loop-line.rest.now c.loop-line.invariant (sym c.in_default.ensures)

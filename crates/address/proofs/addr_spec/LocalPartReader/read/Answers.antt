@@ -5,4 +5,4 @@ use Rattle.address.specs.Reads.{dot_atom_rest}
 use Rattle.address.proofs.addr_spec.LocalPartReader.read.Goals as goal
 
 pub returns-in-34 : goal.returns-in-34
-returns-in-34 c = c.skip-quoted.ensures ∙ sym (opened 34 quoted_rest dot_atom_rest c.args.s.now (omega (arith, ltb-false)) (omega (arith, tests)))
+returns-in-34 c = c.skip_quoted.ensures ∙ sym (opened 34 quoted_rest dot_atom_rest c.args.s.now (omega (arith, ltb-false)) (omega (arith, tests)))

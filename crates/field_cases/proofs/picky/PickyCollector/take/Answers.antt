@@ -4,4 +4,4 @@ use Rattle.field_cases.proofs.Picking.{picked}
 use Rattle.field_cases.proofs.picky.PickyCollector.take.Goals as goal
 
 pub returns : goal.returns
-returns c = picked (last_of c.args.self.now) (placed_field c.args.field) c.if-is-name.ensures
+returns c = picked (last_of c.args.self.now) (placed_field c.args.field) c.if-is_name.ensures
