@@ -8,20 +8,12 @@ use Rattle.lexical.specs.Reads.{fws, content, comment_rest}
 use Rattle.lexical.specs.Contents.{past_plain, past_pair, past_inner, stop_inner, closed}
 use Rattle.lexical.specs.Comments.{comment_starts, comment_shortens}
 use Rattle.lexical.proofs.white.+comment.Goals as goal
-use Rattle.lexical.proofs.white.+comment.Goals.{in-40+in-ok-next, in-92+in-ok-next-2, in-default-b}
+use Rattle.lexical.proofs.white.+comment.Goals.{in-40+in_ok-next-in-40, in-92+in_ok-next-in-92, in_default-b}
 
 pub loop-rest-init : goal.loop-rest-init
 loop-rest-init t c =
     subst (λ r. Going (content 41 ctext (comment_rest (c.args.depth - 1))) r (comment_rest c.args.depth c.args.s.now)) (sym c.skip_fws-rest.ensures)
     (comment_starts c.args.depth c.args.s.now (omega arith))
-
-pub returns-in-41 : goal.returns-in-41
-returns-in-41 t c = closed 41 ctext _ _ c.loop-rest.rest.now c.loop-rest.invariant (omega (arith, ltb-false)) (eq-eqb _ _ (omega (arith, tests)))
-
-pub returns-in_err-next : goal.returns-in_err-next
-returns-in_err-next t c =
-    ap (option_map (λ x. x.now)) c.from_residual.ensures
-    ∙ stop_inner 41 ctext _ _ c.loop-rest.rest.now c.loop-rest.invariant (omega (arith, ltb-false)) refl refl c.in-40.is (sym c.in_err-next.ensures)
 
 turned : (t : ℕ) (c : goal.After-skip_fws-rest-in-len1-up t) → Turned (content 41 ctext (comment_rest (c.args.depth - 1))) c.loop-rest.rest.now c.skip_fws-rest-in-len1-up.result.now (comment_rest c.args.depth c.args.s.now)
 turned t c =
@@ -31,9 +23,9 @@ turned t c =
     let whole = comment_rest c.args.depth c.args.s.now in
     let left = c.skip_fws-rest-in-len1-up.ensures in
     elim c.match-b.branch [
-      | in-40+in-ok-next w ↦ subst (λ u. Turned (content 41 ctext inner) s u whole) (sym (left ∙ ap (λ r. fws r.now) w.next-is)) (past_inner 41 ctext inner whole s c.loop-rest.invariant some w.in_ok-next.next.now (comment_shortens (c.args.depth - 1)) refl refl w.in-40.is (sym w.in_ok-next.ensures))
-      | in-92+in-ok-next-2 w ↦ subst (λ u. Turned (content 41 ctext inner) s u whole) (sym (left ∙ ap (λ r. fws r.now) w.next-is)) (past_pair 41 ctext inner whole s c.loop-rest.invariant some w.in_ok-next-2.next.now refl refl w.in-92.is (sym w.in_ok-next-2.ensures))
-      | in-default-b w ↦ let e = sym w.if-holds.ensures in subst (λ u. Turned (content 41 ctext inner) s u whole) (sym (left ∙ ap (λ r. fws r.now) w.next-is)) (past_plain 41 ctext inner whole s c.loop-rest.invariant some (differs ctext 41 (get_or s 0 0) refl e) e)
+      | in-40+in_ok-next-in-40 w ↦ subst (λ u. Turned (content 41 ctext inner) s u whole) (sym (left ∙ ap (λ r. fws r.now) w.next-is)) (past_inner 41 ctext inner whole s c.loop-rest.invariant some w.in_ok-next-in-40.next.now (comment_shortens (c.args.depth - 1)) refl refl w.in-40.is (sym w.in_ok-next-in-40.ensures))
+      | in-92+in_ok-next-in-92 w ↦ subst (λ u. Turned (content 41 ctext inner) s u whole) (sym (left ∙ ap (λ r. fws r.now) w.next-is)) (past_pair 41 ctext inner whole s c.loop-rest.invariant some w.in_ok-next-in-92.next.now refl refl w.in-92.is (sym w.in_ok-next-in-92.ensures))
+      | in_default-b w ↦ let e = sym w.if-holds.ensures in subst (λ u. Turned (content 41 ctext inner) s u whole) (sym (left ∙ ap (λ r. fws r.now) w.next-is)) (past_plain 41 ctext inner whole s c.loop-rest.invariant some (differs ctext 41 (get_or s 0 0) refl e) e)
     ]
 
 pub loop-rest-smaller : goal.loop-rest-smaller
