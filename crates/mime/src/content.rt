@@ -11,7 +11,7 @@ ghost use Rattle.abnf.proofs.Runs.{some_shortens};
 ghost use Rattle.mime.specs.Tokens.{value_shortens};
 
 use crate::values::means;
-use abnf::classes::{Token, skip_byte, skip_some};
+use abnf::classes::{skip_byte, skip_some};
 use abnf::strings::is_alike;
 use lexical::quoted::skip_quoted;
 use lexical::span::{Reader, around};
@@ -25,7 +25,7 @@ impl Reader for Token {
     ghost shorter = { some_shortens Classes.token };
 
     fn read<'a>(s: &'a [u8]) -> Option<&'a [u8]> {
-        skip_some::<Token>(s)
+        skip_some::<abnf::classes::Token>(s)
     }
 }
 

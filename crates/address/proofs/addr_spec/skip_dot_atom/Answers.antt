@@ -11,7 +11,7 @@ returns-in_err-rest c = ap (option_map (λ x. x.now)) c.from_residual.ensures �
 pub loop-rest-init : goal.loop-rest-init
 loop-rest-init c = dots_start c.args.s.now c.in_ok-rest.rest.now (sym c.in_ok-rest.ensures)
 
-turned : (c : goal.In-ok-rest-2) → Turned dotted c.loop-rest.rest.now c.in_ok-rest-2.rest.now (dot_atom_rest c.args.s.now)
+turned : (c : goal.In_ok-rest-2) → Turned dotted c.loop-rest.rest.now c.in_ok-rest-2.rest.now (dot_atom_rest c.args.s.now)
 turned c = past_dot _ c.loop-rest.rest.now c.loop-rest.invariant (omega (arith, ltb-false)) (omega (arith, tests)) c.in_ok-rest-2.rest.now (sym c.in_ok-rest-2.ensures)
 
 pub returns-in_err-rest-2 : goal.returns-in_err-rest-2

@@ -11,7 +11,7 @@ returns-in_err-rest c = ap (option_map (λ x. x.now)) c.from_residual.ensures �
 pub loop-rest-init : goal.loop-rest-init
 loop-rest-init c = name_starts c.args.s.now c.in_ok-rest.rest.now (sym c.in_ok-rest.ensures.leaves)
 
-turned : (c : goal.In-ok-rest-2) → Turned name_words c.loop-rest.rest.now c.in_ok-rest-2.rest.now (name_rest c.args.s.now)
+turned : (c : goal.In_ok-rest-2) → Turned name_words c.loop-rest.rest.now c.in_ok-rest-2.rest.now (name_rest c.args.s.now)
 turned c = past_word _ c.loop-rest.rest.now c.loop-rest.invariant (omega (arith, ltb-false)) (sym c.if-holds.ensures) c.in_ok-read.field-0.now c.in_ok-rest-2.rest.now (sym c.in_ok-read.ensures) (sym c.in_ok-rest-2.ensures.leaves)
 
 pub loop-rest-smaller : goal.loop-rest-smaller

@@ -14,7 +14,7 @@ returns-in_err-p c =
     c.from_residual.ensures
     ∙ found_none c.loop-rest.found _ c.loop-rest.rest.now c.loop-rest.invariant (omega (arith, ltb-false)) (omega (arith, tests)) (sym c.in_err-p.ensures)
 
-on : (c : goal.After-rest·1) → Found (c.loop-rest.found || c.says_notification-found.result) c.loop-rest.rest.now c.in_ok-p.p.rest.now (option_map (some reports) (parameters_of c.args.s.now))
+on : (c : goal.After-rest-1) → Found (c.loop-rest.found || c.says_notification-found.result) c.loop-rest.rest.now c.in_ok-p.p.rest.now (option_map (some reports) (parameters_of c.args.s.now))
 on c =
     subst (λ b. Found (c.loop-rest.found || b) c.loop-rest.rest.now c.in_ok-p.p.rest.now (option_map (some reports) (parameters_of c.args.s.now))) (sym c.says_notification-found.ensures)
     (found_on c.loop-rest.found _ c.loop-rest.rest.now c.loop-rest.invariant (omega (arith, ltb-false)) (omega (arith, tests)) (read c.in_ok-p.p) (sym c.in_ok-p.ensures))
