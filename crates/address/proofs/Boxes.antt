@@ -1,5 +1,5 @@
 -- Mailboxes, in a clean body.
-use Rattle.std.proofs.Common.{◌≡◌, ℕ, ◌<◌, true, eqb, ◌⊎◌, List, ◌∷◌, length, Some, None, sym, refl, ap, ◌∙◌, subst, ⊎_elim, arith}
+use Rattle.std.proofs.Common.{◌≡◌, ℕ, ◌<◌, true, eqb, List, ◌∷◌, length, Some, None, sym, refl, ap, ◌∙◌, subst, ⊎_elim, arith}
 use Rattle.fields.specs.Clean.{clean}
 use Rattle.abnf.specs.Abnf.{◌⋅◌, plus, opt, byte, one, At}
 use Rattle.abnf.specs.Classes.{atext, behind_byte}

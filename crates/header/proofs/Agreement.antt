@@ -1,5 +1,5 @@
 -- When a header agrees.
-use Rattle.std.proofs.Common.{◌≡◌, true, false, ◌&&◌, eqb, ◌⊎◌, List, [], ◌∷◌, length, Some, None, Option, refl, ap, ◌∙◌, inl, ⊎_elim, arith}
+use Rattle.std.proofs.Common.{◌≡◌, true, false, ◌&&◌, eqb, List, [], ◌∷◌, length, Some, None, Option, refl, ap, ◌∙◌, inl, ⊎_elim, arith}
 use Rattle.std.proofs.lemmas.Bool.{and_parts, and_from, both_ways, eqb-true, eq-eqb, or_cases, or_left}
 use Rattle.address.specs.Rfc5322.{Addr}
 use Rattle.equality.specs.Equality.{same_address}

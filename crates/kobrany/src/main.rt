@@ -1,6 +1,7 @@
 // The program: it reads files by the library, and prints what was found.
 #![tactic(auto)]
 
+use anyhow::Context;
 use std::env;
 
 mod facts;
@@ -38,9 +39,9 @@ fn main(rt: HostRuntime) -> anyhow::Result<()> {
 fn run(rt: &HostRuntime) -> anyhow::Result<()> {
     let mut args = env::args(rt)?;
     let _program = args.next();
-    let word = args.next().ok_or(USAGE)?;
-    let file = args.next().ok_or(USAGE)?;
-    let command = Command::named(word.as_str()).ok_or(USAGE)?;
+    let word = args.next().context(USAGE)?;
+    let file = args.next().context(USAGE)?;
+    let command = Command::named(word.as_str()).context(USAGE)?;
     command.answer(rt, file.as_str())?;
     for more in args {
         command.answer(rt, more.as_str())?;

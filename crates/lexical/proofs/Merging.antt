@@ -1,5 +1,5 @@
 -- [CFWS] [CFWS] is a [CFWS], where no fold leads to a blank line.
-use Rattle.std.proofs.Common.{◌≡◌, ℕ, true, false, not, ◌⊎◌, List, [], ◌∷◌, ◌++◌, sym, refl, ap, ◌∙◌, subst, ⊎_elim}
+use Rattle.std.proofs.Common.{◌≡◌, ℕ, true, false, not, List, [], ◌∷◌, ◌++◌, sym, refl, ap, ◌∙◌, subst, ⊎_elim}
 use Rattle.std.proofs.lemmas.Bool.{and_parts, both_ways}
 use Rattle.fields.specs.Classes.{wsp, starts, behind}
 use Rattle.fields.specs.Clean.{is_CR, no_blank, clean}

@@ -1,5 +1,5 @@
 -- Quoted strings.
-use Rattle.std.specs.Prelude.{◌≡◌, ℕ, suc, ◌⊎◌, List, length, Some, refl}
+use Rattle.std.specs.Prelude.{◌≡◌, ℕ, suc, List, length, Some, refl}
 use Rattle.std.proofs.Common.{⊎_elim, arith}
 use Rattle.abnf.specs.Abnf.{Rule, ◌⋅◌, star, opt, byte, nothing, At}
 use Rattle.abnf.specs.Classes.{qtext}

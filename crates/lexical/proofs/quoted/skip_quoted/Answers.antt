@@ -1,11 +1,9 @@
-use Rattle.std.proofs.Common.{◌≤◌, length, get_or, sym, refl, ap, ◌∙◌, subst, arith, tests, ltb-false}
-use Rattle.std.specs.Option.{option_map}
-use Rattle.std.proofs.lemmas.Bool.{eq-eqb}
+use Rattle.std.proofs.Common.{◌≤◌, length, get_or, sym, refl, ap, ◌∙◌, subst, arith, ltb-false}
 use Rattle.abnf.specs.Classes.{qtext}
 use Rattle.abnf.proofs.Operators.{differs}
 use Rattle.abnf.proofs.Turns.{Going, Turned}
 use Rattle.lexical.specs.Reads.{fws, content, no_comment, quoted_rest}
-use Rattle.lexical.specs.Contents.{past_plain, past_pair, stop_pair, closed}
+use Rattle.lexical.specs.Contents.{past_plain, past_pair}
 use Rattle.lexical.specs.Quoting.{quoted_run}
 use Rattle.lexical.proofs.quoted.skip_quoted.Goals as goal
 use Rattle.lexical.proofs.quoted.skip_quoted.Goals.{in-92+in_ok-next-in-92, in_default-b}

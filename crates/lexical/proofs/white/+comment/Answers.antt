@@ -1,11 +1,9 @@
-use Rattle.std.proofs.Common.{ℕ, ◌-◌, ◌≤◌, length, get_or, sym, refl, ap, ◌∙◌, subst, arith, tests, ltb-false}
-use Rattle.std.specs.Option.{option_map}
-use Rattle.std.proofs.lemmas.Bool.{eq-eqb}
+use Rattle.std.proofs.Common.{ℕ, ◌-◌, ◌≤◌, length, get_or, sym, refl, ap, ◌∙◌, subst, arith, ltb-false}
 use Rattle.abnf.specs.Classes.{ctext}
 use Rattle.abnf.proofs.Operators.{differs}
 use Rattle.abnf.proofs.Turns.{Going, Turned}
 use Rattle.lexical.specs.Reads.{fws, content, comment_rest}
-use Rattle.lexical.specs.Contents.{past_plain, past_pair, past_inner, stop_inner, closed}
+use Rattle.lexical.specs.Contents.{past_plain, past_pair, past_inner}
 use Rattle.lexical.specs.Comments.{comment_starts, comment_shortens}
 use Rattle.lexical.proofs.white.+comment.Goals as goal
 use Rattle.lexical.proofs.white.+comment.Goals.{in-40+in_ok-next-in-40, in-92+in_ok-next-in-92, in_default-b}
