@@ -4,7 +4,7 @@
 usage: python3 tools/respell.py [--dry]      at the top of the repository
 
 Names with a dash get an underscore in its place, `line-end` to `line_end`; those that begin with a capital, as types and
-facts do, go to camel case, `Walk-exactly` to `WalkExactly`. Only names that a file of specs/ or proofs/ declares are
+facts do, go to camel case, `Walk-exactly` to `WalkExactly`, also where port.py gave them an underscore. Only names that a file of specs/ or proofs/ declares are
 touched: names of the kit and names that the check makes keep theirs. Comments and texts keep their words.
 It prints each name that would fall together with another one, and then writes nothing.
 """
@@ -32,8 +32,12 @@ def comment_at(line, mark):
     return m.start() if m else len(line)
 
 
+def turns(name):
+    return "-" in name.strip("-") or (name[0].isupper() and "_" in name and not name.isupper())
+
+
 def declared(path):
-    """The names with a dash that a file declares, and those among them that are fields of a record."""
+    """The names to turn that a file declares, and those among them that are fields of a record."""
     names, fields, in_record = set(), set(), False
     goals = os.path.basename(path) in MADE
     for line in open(path, encoding="utf-8"):
@@ -41,7 +45,7 @@ def declared(path):
         m = DECLARES.match(code)
         if code.strip() and not code.startswith((" ", "\t")):
             in_record = "record " in code and " where" in code
-        if not m or "-" not in m.group(5).strip("-"):
+        if not m or not turns(m.group(5)):
             continue
         # what an answer file declares at its top is a goal, whose name the check made
         if goals and not m.group(1) and "pub " in (m.group(2) or "") + (m.group(3) or ""):
@@ -65,7 +69,7 @@ def foreign(text):
 def respelled(name):
     if not name[0].isupper():
         return name.replace("-", "_")
-    return "".join((p[0].upper() + (p[1:].lower() if p.isupper() else p[1:])) for p in name.split("-"))
+    return "".join((p[0].upper() + (p[1:].lower() if p.isupper() else p[1:])) for p in re.split("[-_]", name))
 
 
 def turned(text, mark, names, fields):

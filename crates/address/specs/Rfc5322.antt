@@ -65,7 +65,7 @@ id_right = dot_atom_text ∕ literal_text
 abbrev pub msg_id_text : Rule
 msg_id_text = byte 60 ⋅ dot_atom_text ⋅ byte 64 ⋅ id_right ⋅ byte 62
 
--- 3.6.4: [CFWS] "<" id-left "@" id_right ">" [CFWS], which tells what stands from "<" to ">", and its place
+-- 3.6.4: [CFWS] "<" id-left "@" id-right ">" [CFWS], which tells what stands from "<" to ">", and its place
 abbrev pub msg_id : Placed → Rule
 msg_id x = around_at x msg_id_text
 

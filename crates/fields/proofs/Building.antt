@@ -120,7 +120,7 @@ pub fault_whole : {at : ℕ} → fault at ≡ whole → ⊥
 fault_whole e = let y : ◌≡◌ {A = ℕ} 0 1 = cc in omega arith
 
 -- what a cut with no fault shows of the bytes s behind a line of the field f
-record Goes_on (form : Form) (f : PlacedField) (at : ℕ) (s : List ℕ) (c : Cut) : Type 0 where
+record GoesOn (form : Form) (f : PlacedField) (at : ℕ) (s : List ℕ) (c : Cut) : Type 0 where
   folds : List ℕ
   rest : List ℕ
   others : List PlacedField
@@ -134,7 +134,7 @@ built_at {form} {at} {at'} {fs} {fs'} {s} {s'} a f e b = subst (λ x. Built form
 
 -- the texts ts behind a line of a field, cut with no fault
 abbrev Further : Form → List (List ℕ) → Type 0
-Further form ts = (f : PlacedField) (at : ℕ) → (cut form (Some f) at ts).ending ≡ whole → Goes_on form f at (bytes_of ts) (cut form (Some f) at ts)
+Further form ts = (f : PlacedField) (at : ℕ) → (cut form (Some f) at ts).ending ≡ whole → GoesOn form f at (bytes_of ts) (cut form (Some f) at ts)
 
 -- a line that is not indented, before more texts of which this is known
 module _ (form : Form) (at : ℕ) (t : List ℕ) (ts : List (List ℕ)) (more : Further form ts) where
@@ -173,7 +173,7 @@ opening_shown form at (b ∷ t) ts more =
     (λ _ e. absurd (fault_whole e))
 
 -- nothing stands behind the field
-over_here : (form : Form) (f : PlacedField) (at : ℕ) → Goes_on form f at [] (closing (Some f) (stop whole))
+over_here : (form : Form) (f : PlacedField) (at : ℕ) → GoesOn form f at [] (closing (Some f) (stop whole))
 over_here form f at = record { folds = []; rest = []; others = []; folded = none; bytes_are = refl; built_on = over nothing; fields_are = ap (λ x. x ∷ []) (sym (extended_none f)) }
 
 further : (form : Form) (ts : List (List ℕ)) → Further form ts
@@ -181,12 +181,12 @@ unfolding cut
 further form [] f at = λ e. over_here form f at
 further form ([] ∷ []) f at = λ e. over_here form f at
 further form ((b ∷ t) ∷ []) f at =
-    cond_both (wsp b) spoils faulty (λ r. (by_role (Some f) at (λ g. stop whole) r).ending ≡ whole → Goes_on form f at (b ∷ t) (by_role (Some f) at (λ g. stop whole) r)) (λ _ e. absurd (fault_whole e)) (λ _ e. absurd (fault_whole e))
+    cond_both (wsp b) spoils faulty (λ r. (by_role (Some f) at (λ g. stop whole) r).ending ≡ whole → GoesOn form f at (b ∷ t) (by_role (Some f) at (λ g. stop whole) r)) (λ _ e. absurd (fault_whole e)) (λ _ e. absurd (fault_whole e))
 further form (t ∷ u ∷ us) f at =
     let ts = u ∷ us in
     let more = further form (u ∷ us) in
     let go : PlacedField → Cut = λ g. cut form (Some g) (at + length t + 2) ts in
-    let P : Role → Type 0 = λ r. (by_role (Some f) at go r).ending ≡ whole → Goes_on form f at (t ++ 13 ∷ 10 ∷ bytes_of ts) (by_role (Some f) at go r) in
+    let P : Role → Type 0 = λ r. (by_role (Some f) at go r).ending ≡ whole → GoesOn form f at (t ++ 13 ∷ 10 ∷ bytes_of ts) (by_role (Some f) at go r) in
     cond_both (indented t) (continuing (Some f) t) (opening form at t) P
     (λ i.
     cond_both (sound t && not (blank t)) (continues (continued f t)) spoils P

@@ -101,7 +101,7 @@ crlf_is (a ∷ b ∷ s) e =
     let q : b ≡ 10 = eqb-true b 10 x.1 in
     (s, cc)
 
--- what `line-end` finds: a line's text of at most `room` plain bytes, and its CRLF
+-- what `line_end` finds: a line's text of at most `room` plain bytes, and its CRLF
 pub record LineAt (room : ℕ) (s e : List ℕ) : Type 0 where
   pub text : List ℕ
   pub rest : List ℕ
@@ -139,7 +139,7 @@ shifted b s t u us e h =
     let r : p.others ≡ u ∷ us = cc in
     (p.first, cc, p.are ∙ ap (λ ts. p.first ∷ ts) r)
 
--- where `line-end` finds none, the first text is no line's, or is not plain, or is too long
+-- where `line_end` finds none, the first text is no line's, or is not plain, or is too long
 pub no_line : (room : ℕ) (s t u : List ℕ) (us : List (List ℕ)) → line_end room s ≡ None → texts s ≡ t ∷ u ∷ us → (every plain t && leb (length t) room) ≡ false
 unfolding texts
 no_line room [] t u us q e = let z : ◌≡◌ {A = ℕ} 0 1 = cc in absurd (omega arith)

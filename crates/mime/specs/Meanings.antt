@@ -9,6 +9,6 @@ pub record Next (s : List ℕ) (m : Meant) : Type 0 where
   pub less : length m.rest.now < length s
 
 -- as long as there is one
-abbrev pub Goes_on : List ℕ → Option Meant → Type 0
-Goes_on s None = between s ≡ []
-Goes_on s (Some m) = Next s m
+abbrev pub GoesOn : List ℕ → Option Meant → Type 0
+GoesOn s None = between s ≡ []
+GoesOn s (Some m) = Next s m

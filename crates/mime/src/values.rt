@@ -2,7 +2,7 @@
 ghost use Rattle.std.specs.Prelude.{◌≡◌, ◌∷◌};
 ghost use Rattle.mime.specs.Values.{between, unquoted};
 ghost use Rattle.abnf.specs.Strings.{alike};
-ghost use Rattle.mime.specs.Meanings.{Next, Goes_on};
+ghost use Rattle.mime.specs.Meanings.{Next, GoesOn};
 
 use abnf::strings::is_alike;
 use fields::bytes::{Class, Wsp};
@@ -42,7 +42,7 @@ fn behind_cr<'a>(tail: &'a [u8]) -> Meant<'a>
 
 // The next byte of what `s` means behind a first quote; none at the last quote.
 fn next_meant<'a>(s: &'a [u8]) -> Option<Meant<'a>>
-    ensures { Goes_on s.now result }
+    ensures { GoesOn s.now result }
 {
     let [byte, rest @ ..] = s else {
         return None;
