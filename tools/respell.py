@@ -57,7 +57,10 @@ def declared(path):
 
 
 def foreign(text):
-    """The names that a file takes from the kit: they keep theirs."""
+    """The names that a file takes from the kit: they keep theirs.
+
+    A line of a proof may begin with a lemma of the kit and a parenthesis, and then looks like a declaration.
+    """
     names = set()
     for m in re.finditer(r"use ((?:\w|\.)+)\.\{([^}]*)\}", text):
         parts = m.group(1).split(".")

@@ -60,7 +60,7 @@ said c = record {
 unfoldable pub header_of : List ℕ → Result Said Refusal
 header_of s = meaning said (walked collects nothing_yet Header s)
 
--- the same of the header of `size` bytes from byte `start` of the spool on
+-- the same of the header of `size` bytes from byte `start` of the spool on; one that reaches beyond it is too long
 abbrev pub header_at : List ℕ → ℕ → ℕ → Result Said Refusal
 header_at spool start size =
     let inside = header_of (take size (drop start spool)) in

@@ -76,7 +76,8 @@ pub fn read_header<'a>(input: &'a [u8]) -> Result<Facts<'a>, Refusal>
     Ok(Facts::of(collecting))
 }
 
-// The facts of the header of `size` bytes that begins at byte `start` of the spool, the bytes of all headers.
+// The facts of the header of `size` bytes that begins at byte `start` of the spool, the bytes of all headers. One that
+// reaches beyond the spool is too long for it.
 pub fn read_header_at<'a>(spool: &'a [u8], start: usize, size: usize) -> Result<Facts<'a>, Refusal>
     ensures answers { meaning facts_said result ≡ header_at spool.now start size }
     ensures exactly { start + size ≤ length spool.now → SaysExactly (take size (drop start spool.now)) (meaning facts_said result) }
