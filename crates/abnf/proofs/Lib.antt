@@ -1,4 +1,3 @@
-pub mod Options
 pub mod Operators
 pub mod Runs
 pub mod Turns

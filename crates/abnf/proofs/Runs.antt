@@ -1,11 +1,10 @@
 -- A run of one class leaves what the rule leaves.
-use Rattle.std.proofs.Common.{◌≡◌, ℕ, suc, ◌<◌, ◌≤◌, Bool, true, false, eqb, List, [], ◌∷◌, length, get_or, Some, None, Option, sym, refl, ap, ◌∙◌, subst, arith}
+use Rattle.std.proofs.Common.{◌≡◌, ℕ, suc, ◌<◌, ◌≤◌, Bool, false, eqb, List, [], ◌∷◌, length, Some, None, Option, sym, refl, ap, ◌∙◌, subst, arith}
 use Rattle.std.proofs.lemmas.Bool.{cond_both, cond-true, cond-false, eqb-true, eq-eqb}
+use Rattle.std.proofs.lemmas.Option.{none-some, same_Some}
 use Rattle.fields.specs.Classes.{behind}
-use Rattle.fields.proofs.Patterns.{tail, one_ahead}
 use Rattle.abnf.specs.Abnf.{plus, byte, one, At}
 use Rattle.abnf.specs.Classes.{behind_one, behind_byte, behind_some}
-use Rattle.abnf.proofs.Options.{none_some, some_same}
 use Rattle.abnf.proofs.Operators.{seq_in, seq_out, byte_in, byte_out, one_in, one_out, Many, no_more, one_more, many_in, many_out}
 
 -- t does not begin with a byte of the class
@@ -25,27 +24,21 @@ module _ (p : ℕ → Bool) where
       cond_both (p b) (behind p s) (b ∷ s) (λ l. length l ≤ suc (length s)) (λ e. omega arith) (λ e. omega arith)
 
   pub some_shortens : Shortens (behind_some p)
-  some_shortens [] t e = absurd (none_some e)
+  some_shortens [] t e = absurd (none-some _ e)
   some_shortens (b ∷ s) t e =
-      cond_both (p b) (Some (behind p s)) None (λ o. o ≡ Some t → length t < suc (length s)) (λ _ q. omega (arith, behind_shorter s, ap length (some_same q))) (λ _ q. absurd (none_some q)) e
-
-  pub some_ahead : (s : List ℕ) → 1 ≤ length s → p (get_or s 0 0) ≡ true → behind_some p s ≡ Some (behind p (tail 1 s))
-  some_ahead s h e = ap (behind_some p) (one_ahead s h) ∙ rw e refl
-
-  pub one_ahead_of : (s : List ℕ) → 1 ≤ length s → p (get_or s 0 0) ≡ true → behind_one p s ≡ Some (tail 1 s)
-  one_ahead_of s h e = ap (behind_one p) (one_ahead s h) ∙ rw e refl
+      cond_both (p b) (Some (behind p s)) None (λ o. o ≡ Some t → length t < suc (length s)) (λ _ q. omega (arith, behind_shorter s, ap length (same_Some _ _ q))) (λ _ q. absurd (none-some _ q)) e
 
   pub one_shortens : Shortens (behind_one p)
-  one_shortens [] t e = absurd (none_some e)
+  one_shortens [] t e = absurd (none-some _ e)
   one_shortens (b ∷ s) t e =
-      cond_both (p b) (Some s) None (λ o. o ≡ Some t → length t < suc (length s)) (λ _ q. omega (arith, ap length (some_same q))) (λ _ q. absurd (none_some q)) e
+      cond_both (p b) (Some s) None (λ o. o ≡ Some t → length t < suc (length s)) (λ _ q. omega (arith, ap length (same_Some _ _ q))) (λ _ q. absurd (none-some _ q)) e
 
   pub one_sound : (s t : List ℕ) → behind_one p s ≡ Some t → At (one p) s t
-  one_sound [] t e = absurd (none_some e)
+  one_sound [] t e = absurd (none-some _ e)
   one_sound (b ∷ s) t e =
       cond_both (p b) (Some s) None (λ o. o ≡ Some t → At (one p) (b ∷ s) t)
-      (λ h q. subst (λ l. At (one p) (b ∷ s) l) (some_same q) (one_in h))
-      (λ _ q. absurd (none_some q))
+      (λ h q. subst (λ l. At (one p) (b ∷ s) l) (same_Some _ _ q) (one_in h))
+      (λ _ q. absurd (none-some _ q))
       e
 
   pub one_complete : (s t : List ℕ) → At (one p) s t → behind_one p s ≡ Some t
@@ -72,11 +65,11 @@ module _ (p : ℕ → Bool) where
       ap (behind p) d.1 ∙ cond-true (p d.0) (behind p m) (d.0 ∷ m) d.2 ∙ behind_complete r h
 
   pub some_sound : (s t : List ℕ) → behind_some p s ≡ Some t → At (plus (one p)) s t
-  some_sound [] t e = absurd (none_some e)
+  some_sound [] t e = absurd (none-some _ e)
   some_sound (b ∷ s) t e =
       cond_both (p b) (Some (behind p s)) None (λ o. o ≡ Some t → At (plus (one p)) (b ∷ s) t)
-      (λ h q. subst (λ l. At (plus (one p)) (b ∷ s) l) (some_same q) (seq_in (one_in h) (many_in (behind_sound s))))
-      (λ _ q. absurd (none_some q))
+      (λ h q. subst (λ l. At (plus (one p)) (b ∷ s) l) (same_Some _ _ q) (seq_in (one_in h) (many_in (behind_sound s))))
+      (λ _ q. absurd (none-some _ q))
       e
 
   pub some_complete : (s t : List ℕ) → At (plus (one p)) s t → Off p t → behind_some p s ≡ Some t

@@ -1,19 +1,24 @@
 -- The turns of a reader, and of the loop that is that reader.
 use Rattle.std.proofs.Common.{◌≡◌, ℕ, zero, suc, ◌<◌, ◌≤◌, List, length, Some, None, Option, sym, refl, ap, ◌∙◌, arith}
+use Rattle.std.proofs.lemmas.Option.{none-some, same_Some}
+use Rattle.std.specs.Option.{option_map}
 use Rattle.abnf.specs.Turns.{Left, bind, turns, run}
-use Rattle.abnf.proofs.Options.{none_some}
 use Rattle.abnf.proofs.Runs.{Shortens}
 
 pub bind_some : {A B : Type 0} (o : Option A) (f : A → Option B) (t : B) → bind o f ≡ Some t → (u : A) × (o ≡ Some u) × (f u ≡ Some t)
-bind_some None f t e = absurd (none_some e)
+bind_some None f t e = absurd (none-some _ e)
 bind_some (Some u) f t e = (u, refl, e)
+
+pub mapped_some : {A B : Type 0} (f : A → B) (o : Option A) (y : B) → option_map f o ≡ Some y → (x : A) × (o ≡ Some x) × (f x ≡ y)
+mapped_some f None y e = absurd (none-some _ e)
+mapped_some f (Some x) y e = (x, refl, same_Some _ _ e)
 
 -- a step shortens if going on does
 abbrev pub ShortStep : ((List ℕ → Left) → List ℕ → Left) → Type 0
 ShortStep step = (again : List ℕ → Left) → Shortens again → Shortens (step again)
 
 pub turns_shorten : (step : (List ℕ → Left) → List ℕ → Left) → ShortStep step → (k : ℕ) → Shortens (turns step k)
-turns_shorten step h zero s t e = absurd (none_some e)
+turns_shorten step h zero s t e = absurd (none-some _ e)
 turns_shorten step h (suc k) s t e = h (turns step k) (turns_shorten step h k) s t e
 
 -- from `rest` the answer is still to be `whole`

@@ -1,6 +1,7 @@
 -- The classes of bytes, each as the RFC lists it, without the obs- forms.
-use Rattle.std.specs.Prelude.{ℕ, Bool, false, cond, not, ◌&&◌, ◌||◌, List, [], ◌∷◌, Some, None, codes, Option, ◌==◌, nat_eq, nat_le}
+use Rattle.std.specs.Prelude.{ℕ, Bool, false, cond, not, ◌&&◌, ◌||◌, List, [], ◌∷◌, Some, None, codes, Option, ◌==◌, nat_le}
 use Rattle.fields.specs.Classes.{wsp, behind}
+pub use Rattle.fields.specs.Classes.{behind_one, behind_byte}
 
 -- %dLO-HI
 abbrev pub within : ℕ → ℕ → ℕ → Bool
@@ -52,15 +53,6 @@ tspecials b = among (codes "()<>@,;:\\\"/[]?=") b
 -- RFC 2045, 5.1: what a token is made of, no space, no control and none of tspecials
 abbrev pub token : ℕ → Bool
 token b = vchar b && not (tspecials b)
-
--- what stands behind one byte of a class
-abbrev pub behind_one : (ℕ → Bool) → List ℕ → Option (List ℕ)
-behind_one p [] = None
-behind_one p (b ∷ s) = cond (p b) (Some s) None
-
--- what stands behind a byte n
-abbrev pub behind_byte : ℕ → List ℕ → Option (List ℕ)
-behind_byte n = behind_one (λ b. nat_eq b n)
 
 -- what stands behind a run of one byte or more of a class, as long as it goes
 abbrev pub behind_some : (ℕ → Bool) → List ℕ → Option (List ℕ)

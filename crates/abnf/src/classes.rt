@@ -1,8 +1,9 @@
 // The classes of bytes, and what stands behind a run of one.
 ghost use Rattle.std.specs.Prelude.{◌≡◌};
 ghost use Rattle.std.specs.Option.{option_map};
-ghost use Rattle.abnf.specs.Classes.{quotable, ctext, atext, qtext, dtext, text, token, behind_one, behind_byte, behind_some};
+ghost use Rattle.abnf.specs.Classes.{quotable, ctext, atext, qtext, dtext, text, token, behind_one, behind_some};
 
+pub use fields::bytes::skip_byte;
 use fields::bytes::{Class, skip};
 
 // What may stand behind the "\" of a quoted-pair.
@@ -105,16 +106,6 @@ pub fn skip_one<'a, C: Class>(s: &'a [u8]) -> Option<&'a [u8]>
 {
     match s {
         [b, tail @ ..] if C::holds(*b) => Some(tail),
-        _ => None,
-    }
-}
-
-// What stands behind a byte `b`.
-pub fn skip_byte<'a>(s: &'a [u8], b: u8) -> Option<&'a [u8]>
-    ensures { option_map (λ x. x.now) result ≡ behind_byte b s.now }
-{
-    match s {
-        [first, tail @ ..] if *first == b => Some(tail),
         _ => None,
     }
 }

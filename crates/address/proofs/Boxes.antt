@@ -1,5 +1,6 @@
 -- Mailboxes, in a clean body.
 use Rattle.std.proofs.Common.{◌≡◌, ℕ, ◌<◌, true, eqb, List, ◌∷◌, length, Some, None, sym, refl, ap, ◌∙◌, subst, ⊎_elim, arith}
+use Rattle.std.proofs.lemmas.Option.{same_Some}
 use Rattle.fields.specs.Clean.{clean}
 use Rattle.abnf.specs.Abnf.{◌⋅◌, plus, opt, byte, one, At}
 use Rattle.abnf.specs.Classes.{atext, behind_byte}
@@ -7,7 +8,6 @@ use Rattle.abnf.specs.Turns.{Left, bind}
 use Rattle.abnf.proofs.Operators.{seq_in, seq_out, alt_left, alt_right, alt_out, opt_none, opt_some, opt_out, byte_out, the_out, Many, no_more, one_more, many_in, many_out, many_join, many_map, at_shorter}
 use Rattle.abnf.proofs.Runs.{Off, one_shortens, byte_sound}
 use Rattle.abnf.proofs.Turns.{bind_some}
-use Rattle.abnf.proofs.Options.{some_same}
 use Rattle.lexical.specs.Rfc5322.{CFWS}
 use Rattle.lexical.specs.Spans.{token_of}
 use Rattle.lexical.specs.Exact.{Apart}
@@ -48,7 +48,7 @@ addr_shortens s f e =
     let c = bind_some (token_of domain_rest b.0) _ f b.2 in
     let l = token_steps local_reads s a.0 a.1 in
     let d = token_steps domain_reads b.0 c.0 c.1 in
-    omega (arith, at_shorter l.before, at_shorter l.text, at_shorter l.behind, one_shortens (λ n. eqb n 64) a.0.rest b.0 b.1, at_shorter d.before, at_shorter d.text, at_shorter d.behind, ap (λ (z : Found). length z.rest) (some_same c.2))
+    omega (arith, at_shorter l.before, at_shorter l.text, at_shorter l.behind, one_shortens (λ n. eqb n 64) a.0.rest b.0 b.1, at_shorter d.before, at_shorter d.text, at_shorter d.behind, ap (λ (z : Found). length z.rest) (same_Some _ _ c.2))
 
 pub mailbox_shortens : (s : List ℕ) (f : Found) → mailbox_of s ≡ Some f → length f.rest < length s
 unfolding mailbox_of

@@ -1,13 +1,13 @@
 -- Lists of mailboxes.
-use Rattle.std.proofs.Common.{◌≡◌, ℕ, zero, suc, ◌+◌, ◌<◌, ◌≤◌, Bool, true, false, cond, eqb, leb, List, [], ◌∷◌, length, get_or, Some, None, Option, sym, refl, ap, ◌∙◌, subst, arith}
-use Rattle.std.proofs.lemmas.Bool.{cond_both, cond-true, cond-false, eqb-true, leb-true, le-leb, lt-leb}
+use Rattle.std.proofs.Common.{◌≡◌, ℕ, zero, suc, ◌+◌, ◌<◌, ◌≤◌, Bool, true, false, cond, eqb, leb, List, [], ◌∷◌, length, Some, None, Option, is_some, sym, refl, ap, ◌∙◌, subst, arith}
+use Rattle.std.proofs.lemmas.Bool.{cond_both, cond-true, eqb-true, leb-true, le-leb}
+use Rattle.std.proofs.lemmas.Option.{none-some, same_Some}
+use Rattle.std.specs.Option.{unwrap_or}
 use Rattle.fields.specs.Clean.{clean}
-use Rattle.fields.proofs.Patterns.{tail, one_ahead}
 use Rattle.abnf.specs.Abnf.{Rule, ◌⋅◌, byte, each, nothing, At}
 use Rattle.abnf.specs.Exact.{Exactly, itself}
 use Rattle.abnf.specs.Classes.{behind_byte}
 use Rattle.abnf.specs.Turns.{bind, turns, run}
-use Rattle.abnf.proofs.Options.{none_some, some_same}
 use Rattle.abnf.proofs.Operators.{seq_in, seq_out, byte_in, byte_out, empty_in, empty_out, whole_in, whole_out}
 use Rattle.abnf.proofs.Runs.{byte_sound}
 use Rattle.abnf.proofs.Turns.{bind_some}
@@ -16,7 +16,7 @@ use Rattle.lexical.specs.Reads.{cfws}
 use Rattle.lexical.proofs.Merging.{clean_rest}
 use Rattle.address.specs.Rfc5322.{Addr, mailbox, most_addresses, mailbox_list}
 use Rattle.address.specs.Reads.{dot_atom_rest, Found, addr_spec_of, name_rest, mailbox_of}
-use Rattle.address.specs.Lists.{listed_on, listed, few_enough, mailbox_list_of, behind_comma, addresses_on, addresses_by, addresses, parted, is_some}
+use Rattle.address.specs.Lists.{listed_on, listed, few_enough, mailbox_list_of, behind_comma, addresses_on, addresses_by, addresses}
 use Rattle.address.proofs.Boxes.{mailbox_sound, mailbox_shortens, mailbox_complete}
 
 -- ---- the rule, without its bound
@@ -32,20 +32,20 @@ boxes_more [] b h = absurd h.derived
 boxes_more (x ∷ xs) b h = let p = seq_out h in seq_in (seq_in b p.1) p.2
 
 listed_sound : (k : ℕ) (s : List ℕ) (xs : List Addr) → turns listed k s ≡ Some xs → At (Boxes xs) s []
-listed_sound zero s xs e = absurd (none_some e)
+listed_sound zero s xs e = absurd (none-some _ e)
 listed_sound (suc k) s xs e =
     let m = bind_some (mailbox_of s) _ xs e in
     let f = m.0 in
     go (λ u ys q. listed_sound k u ys q) f.rest (mailbox_sound s f m.1) m.2
   where
     go : {a : Addr} → ((u : List ℕ) (ys : List Addr) → turns listed k u ≡ Some ys → At (Boxes ys) u []) → (r : List ℕ) → At (mailbox a) s r → listed_on (turns listed k) a r ≡ Some xs → At (Boxes xs) s []
-    go {a} ih [] h q = subst (λ l. At (Boxes l) s []) (some_same q) (seq_in h empty_in)
+    go {a} ih [] h q = subst (λ l. At (Boxes l) s []) (same_Some _ _ q) (seq_in h empty_in)
     go {a} ih (b ∷ u) h q =
         cond_both (eqb b 44) (bind (turns listed k u) (λ others. Some (a ∷ others))) None (λ o. o ≡ Some xs → At (Boxes xs) s [])
         (λ c w.
         let y = bind_some (turns listed k u) _ xs w in
-        subst (λ l. At (Boxes l) s []) (some_same y.2) (seq_in h (boxes_more y.0 (byte_in (eqb-true b 44 c)) (ih u y.0 y.1))))
-        (λ _ w. absurd (none_some w))
+        subst (λ l. At (Boxes l) s []) (same_Some _ _ y.2) (seq_in h (boxes_more y.0 (byte_in (eqb-true b 44 c)) (ih u y.0 y.1))))
+        (λ _ w. absurd (none-some _ w))
         q
 
 listed_complete : (k : ℕ) (s : List ℕ) (a : Addr) (others : List Addr) → clean s ≡ true → length s < k → At (mailbox a ⋅ each Next others) s [] → turns listed k s ≡ Some (a ∷ others)
@@ -70,8 +70,8 @@ list_sound : (s : List ℕ) (xs : List Addr) → mailbox_list_of s ≡ Some xs �
 list_sound s xs e =
     let y = bind_some (run listed s) few_enough xs e in
     cond_both (leb (length y.0) most_addresses) (Some y.0) None (λ o. o ≡ Some xs → mailbox_list xs s)
-    (λ h q. subst (λ l. mailbox_list l s) (some_same q) (go y.0 (leb-true (length y.0) most_addresses h) (listed_sound (suc (length s)) s y.0 y.1)))
-    (λ _ q. absurd (none_some q))
+    (λ h q. subst (λ l. mailbox_list l s) (same_Some _ _ q) (go y.0 (leb-true (length y.0) most_addresses h) (listed_sound (suc (length s)) s y.0 y.1)))
+    (λ _ q. absurd (none-some _ q))
     y.2
   where
     go : (ys : List Addr) → length ys ≤ most_addresses → At (Boxes ys) s [] → mailbox_list ys s
@@ -88,12 +88,9 @@ pub list_exact : (s : List ℕ) (r : Option (List Addr)) → r ≡ mailbox_list_
 list_exact s r e c = exactly mailbox_list itself s (mailbox_list_of s) r (e ∙ mapped_itself (mailbox_list_of s)) (list_sound s) (λ xs h. list_complete s xs c h)
 
 -- ---- the addresses one by one
-pub comma_here : (s : List ℕ) → 1 ≤ length s → get_or s 0 0 ≡ 44 → tail 1 s ≡ behind_comma s
-comma_here s h e = sym (ap behind_comma (one_ahead s h) ∙ rw e refl)
-
 comma_shorter : (s : List ℕ) → length (behind_comma s) ≤ length s
 comma_shorter [] = omega arith
-comma_shorter (b ∷ s) = cond_both (eqb b 44) s [] (λ l. length l ≤ suc (length s)) (λ _. omega arith) (λ _. omega arith)
+comma_shorter (b ∷ s) = cond_both (eqb b 44) (Some s) None (λ o. length (unwrap_or o []) ≤ suc (length s)) (λ _. omega arith) (λ _. omega arith)
 
 same_on : (again on : List ℕ → List Addr) (s : List ℕ) → ((u : List ℕ) → length u < length s → again u ≡ on u) → (o : Option Found) → mailbox_of s ≡ o → addresses_on again o ≡ addresses_on on o
 same_on again on s same None e = refl
@@ -120,28 +117,28 @@ none_found s e = ap (addresses_on (addresses_by (length s))) e
 
 -- a list has just its addresses
 listed_addresses : (k : ℕ) (s : List ℕ) (xs : List Addr) → turns listed k s ≡ Some xs → addresses s ≡ xs
-listed_addresses zero s xs e = absurd (none_some e)
+listed_addresses zero s xs e = absurd (none-some _ e)
 listed_addresses (suc k) s xs e =
     let m = bind_some (mailbox_of s) _ xs e in
     let f = m.0 in
     first_found s f m.1 ∙ go (λ u ys q. listed_addresses k u ys q) f.rest m.2
   where
     go : {a : Addr} → ((u : List ℕ) (ys : List Addr) → turns listed k u ≡ Some ys → addresses u ≡ ys) → (r : List ℕ) → listed_on (turns listed k) a r ≡ Some xs → a ∷ addresses (behind_comma r) ≡ xs
-    go {a} ih [] q = ap (λ l. a ∷ l) nothing_there ∙ some_same q
+    go {a} ih [] q = ap (λ l. a ∷ l) nothing_there ∙ same_Some _ _ q
     go {a} ih (b ∷ u) q =
-        cond_both (eqb b 44) (bind (turns listed k u) (λ others. Some (a ∷ others))) None (λ o. o ≡ Some xs → a ∷ addresses (cond (eqb b 44) u []) ≡ xs)
+        cond_both (eqb b 44) (bind (turns listed k u) (λ others. Some (a ∷ others))) None (λ o. o ≡ Some xs → a ∷ addresses (unwrap_or (cond (eqb b 44) (Some u) None) []) ≡ xs)
         (λ c w.
         let y = bind_some (turns listed k u) _ xs w in
-        ap (λ l. a ∷ addresses l) (cond-true (eqb b 44) u [] c) ∙ ap (λ l. a ∷ l) (ih u y.0 y.1) ∙ some_same y.2)
-        (λ _ w. absurd (none_some w))
+        ap (λ o. a ∷ addresses (unwrap_or o [])) (cond-true (eqb b 44) (Some u) None c) ∙ ap (λ l. a ∷ l) (ih u y.0 y.1) ∙ same_Some _ _ y.2)
+        (λ _ w. absurd (none-some _ w))
         q
 
 pub list_addresses : (s : List ℕ) (xs : List Addr) → mailbox_list_of s ≡ Some xs → addresses s ≡ xs
 list_addresses s xs e =
     let y = bind_some (run listed s) few_enough xs e in
     cond_both (leb (length y.0) most_addresses) (Some y.0) None (λ o. o ≡ Some xs → addresses s ≡ xs)
-    (λ _ q. listed_addresses (suc (length s)) s y.0 y.1 ∙ some_same q)
-    (λ _ q. absurd (none_some q))
+    (λ _ q. listed_addresses (suc (length s)) s y.0 y.1 ∙ same_Some _ _ q)
+    (λ _ q. absurd (none-some _ q))
     y.2
 
 -- ---- the loop that counts them
@@ -150,97 +147,45 @@ abbrev counted : ℕ → Option (List Addr) → Bool
 counted n None = false
 counted n (Some xs) = leb (n + length xs) most_addresses
 
--- behind n mailboxes, at `rest`, the answer is still to be `whole`
-pub record Counting (rest : List ℕ) (n : ℕ) (whole : Bool) : Type 0 where
+-- behind n mailboxes of s, at `rest`, it is still open whether s is a list
+pub record Counting (s rest : List ℕ) (n : ℕ) : Type 0 where
   pub fuel : ℕ
   pub long_enough : length rest ≤ fuel
-  pub room : n < most_addresses
-  pub same : counted n (listed (turns listed fuel) rest) ≡ whole
+  pub same : counted n (listed (turns listed fuel) rest) ≡ is_some (mailbox_list_of s)
 
-pub counting_starts : (s : List ℕ) → Counting s 0 (is_some (mailbox_list_of s))
-counting_starts s = record { fuel = length s; long_enough = omega arith; room = omega arith; same = go (run listed s) }
+list_there : (s : List ℕ) → true ≡ is_some (mailbox_list_of s) → Some (addresses s) ≡ mailbox_list_of s
+list_there s e = go (mailbox_list_of s) refl e
   where
-    go : (o : Option (List Addr)) → counted 0 o ≡ is_some (bind o few_enough)
-    go None = refl
-    go (Some xs) = let e : 0 + length xs ≡ length xs = omega arith in ap (λ n. leb n most_addresses) e ∙ cond_both (leb (length xs) most_addresses) (Some xs) None (λ o. leb (length xs) most_addresses ≡ is_some o) (λ h. h) (λ h. h)
-
-some_listed : (k : ℕ) (s : List ℕ) (xs : List Addr) → turns listed k s ≡ Some xs → 1 ≤ length xs
-some_listed k s xs e = go xs (listed_sound k s xs e)
-  where
-    go : (ys : List Addr) → At (Boxes ys) s [] → 1 ≤ length ys
-    go [] h = absurd h.derived
-    go (y ∷ ys) h = omega arith
+    go : (o : Option (List Addr)) → mailbox_list_of s ≡ o → true ≡ is_some o → Some (addresses s) ≡ mailbox_list_of s
+    go None q h = cc
+    go (Some xs) q h = ap Some (list_addresses s xs q) ∙ sym q
 
 one_first : (n : ℕ) (a : Addr) (o : Option (List Addr)) → counted n (bind o (λ others. Some (a ∷ others))) ≡ counted (n + 1) o
 one_first n a None = refl
 one_first n a (Some xs) = let e : n + suc (length xs) ≡ n + 1 + length xs = omega arith in ap (λ k. leb k most_addresses) e
 
-module _ (whole : Bool) (rest : List ℕ) (n : ℕ) (c : Counting rest n whole) where
-  pub no_mailbox : mailbox_of rest ≡ None → false ≡ whole
-  no_mailbox e = ap (λ o. counted n (bind o (λ m. listed_on (turns listed c.fuel) m.address m.rest))) (sym e) ∙ c.same
+module _ (s rest : List ℕ) (n : ℕ) (c : Counting s rest n) (m : Found) (e : mailbox_of rest ≡ Some m) where
+  behind_it : (r : List ℕ) → m.rest ≡ r → counted n (listed_on (turns listed c.fuel) m.address r) ≡ is_some (mailbox_list_of s)
+  behind_it r q =
+      ap (λ l. counted n (listed_on (turns listed c.fuel) m.address l)) (sym q)
+      ∙ ap (λ o. counted n (bind o (λ f. listed_on (turns listed c.fuel) f.address f.rest))) (sym e)
+      ∙ c.same
 
-  module _ (m : Found) (e : mailbox_of rest ≡ Some m) where
-    behind_it : (r : List ℕ) → m.rest ≡ r → counted n (listed_on (turns listed c.fuel) m.address r) ≡ whole
-    behind_it r q =
-        ap (λ l. counted n (listed_on (turns listed c.fuel) m.address l)) (sym q)
-        ∙ ap (λ o. counted n (bind o (λ f. listed_on (turns listed c.fuel) f.address f.rest))) (sym e)
-        ∙ c.same
+  pub last_mailbox : n < most_addresses → m.rest ≡ [] → Some (addresses s) ≡ mailbox_list_of s
+  last_mailbox room q = list_there s (sym (le-leb (n + 1) most_addresses (omega (arith, room))) ∙ behind_it [] q)
 
-    pub last_mailbox : m.rest ≡ [] → true ≡ whole
-    last_mailbox q = sym (le-leb (n + 1) most_addresses (omega (arith, c.room))) ∙ behind_it [] q
+  pub one_counted : (u : List ℕ) → behind_byte 44 m.rest ≡ Some u → Counting s u (n + 1)
+  one_counted u q = go c.fuel c.long_enough (sym (one_first n m.address (turns listed c.fuel u)) ∙ behind_it (44 ∷ u) comma)
+    where
+      comma : m.rest ≡ 44 ∷ u
+      comma = byte_out (byte_sound 44 m.rest u q)
 
-    pub no_comma : (m.rest ≡ [] → ⊥) → behind_byte 44 m.rest ≡ None → false ≡ whole
-    no_comma some q = go m.rest refl q
-      where
-        go : (r : List ℕ) → m.rest ≡ r → behind_byte 44 r ≡ None → false ≡ whole
-        go [] f w = absurd (some f)
-        go (b ∷ u) f w =
-            cond_both (eqb b 44) (Some u) None (λ o. o ≡ None → false ≡ whole)
-            (λ _ z. absurd (none_some (sym z)))
-            (λ h _. sym (ap (counted n) (cond-false (eqb b 44) _ None h)) ∙ behind_it (b ∷ u) f)
-            w
+      less : length u < length rest
+      less = omega (arith, ap length comma, mailbox_shortens rest m e)
 
-    module _ (u : List ℕ) (q : behind_byte 44 m.rest ≡ Some u) where
-      on_comma : counted (n + 1) (turns listed c.fuel u) ≡ whole
-      on_comma = sym (one_first n m.address (turns listed c.fuel u)) ∙ behind_it (44 ∷ u) (byte_out (byte_sound 44 m.rest u q))
-
-      pub too_many : n + 1 ≡ most_addresses → false ≡ whole
-      too_many full = go (turns listed c.fuel u) refl ∙ on_comma
-        where
-          go : (o : Option (List Addr)) → turns listed c.fuel u ≡ o → false ≡ counted (n + 1) o
-          go None f = refl
-          go (Some xs) f = sym (lt-leb (n + 1 + length xs) most_addresses (omega (arith, full, some_listed c.fuel u xs f)))
-
-      pub one_counted : (n + 1 ≡ most_addresses → ⊥) → (length u < length rest) × Counting u (n + 1) whole
-      one_counted more = go c.fuel c.long_enough on_comma
-        where
-          less : length u < length rest
-          less = omega (arith, ap length (byte_out (byte_sound 44 m.rest u q)), mailbox_shortens rest m e)
-
-          go : (k : ℕ) → length rest ≤ k → counted (n + 1) (turns listed k u) ≡ whole → (length u < length rest) × Counting u (n + 1) whole
-          go zero h w = absurd (omega (arith, less))
-          go (suc k) h w = (less, record { fuel = k; long_enough = omega (arith, less); room = omega (arith, more, c.room); same = w })
-
-pub parted_first : (s : List ℕ) (m : Found) (u : List ℕ) → mailbox_of s ≡ Some m → u ≡ behind_comma m.rest → Some (m.address, addresses u) ≡ parted (addresses s)
-parted_first s m u e f = ap (λ l. Some (m.address, addresses l)) f ∙ sym (ap parted (first_found s m e))
-
-pub parted_none : (s : List ℕ) → mailbox_of s ≡ None → None ≡ parted (addresses s)
-parted_none s e = sym (ap parted (none_found s e))
-
--- ---- the list is there, or not
-pub list_there : (s : List ℕ) → true ≡ is_some (mailbox_list_of s) → Some (addresses s) ≡ mailbox_list_of s
-list_there s e = go (mailbox_list_of s) refl e
-  where
-    go : (o : Option (List Addr)) → mailbox_list_of s ≡ o → true ≡ is_some o → Some (addresses s) ≡ mailbox_list_of s
-    go None q h = let z : ◌≡◌ {A = ℕ} 0 1 = cc in absurd (omega arith)
-    go (Some xs) q h = ap Some (list_addresses s xs q) ∙ sym q
-
-pub no_list : (s : List ℕ) → false ≡ is_some (mailbox_list_of s) → None ≡ mailbox_list_of s
-no_list s e = go (mailbox_list_of s) refl e
-  where
-    go : (o : Option (List Addr)) → mailbox_list_of s ≡ o → false ≡ is_some o → None ≡ mailbox_list_of s
-    go None q h = sym q
-    go (Some xs) q h = let z : ◌≡◌ {A = ℕ} 0 1 = cc in absurd (omega arith)
+      go : (k : ℕ) → length rest ≤ k → counted (n + 1) (turns listed k u) ≡ is_some (mailbox_list_of s) → Counting s u (n + 1)
+      go zero h w = absurd (omega (arith, less))
+      go (suc k) h w = record { fuel = k; long_enough = omega (arith, less); same = w }
 
 pub addresses_few : (s : List ℕ) → length (addresses s) ≤ length s
 unfolding addresses

@@ -1,13 +1,13 @@
 -- *word [CFWS], in a clean body.
 use Rattle.std.proofs.Common.{◌≡◌, ℕ, zero, suc, ◌<◌, ◌≤◌, true, false, eqb, List, [], ◌∷◌, length, get_or, Some, None, sym, refl, ap, ◌∙◌, subst, ⊎_elim, arith}
 use Rattle.std.proofs.lemmas.Bool.{cond_both, cond-true, cond-false, or_from, or_left, or_cases, eqb-true}
+use Rattle.std.proofs.lemmas.Option.{none-some, same_Some}
 use Rattle.fields.specs.Classes.{wsp, behind}
 use Rattle.fields.specs.Clean.{clean}
 use Rattle.fields.proofs.Patterns.{tail, one_ahead}
 use Rattle.abnf.specs.Abnf.{Rule, ◌⋅◌, ◌∕◌, star, opt, one, At}
 use Rattle.abnf.specs.Classes.{atext, behind_some}
 use Rattle.abnf.specs.Turns.{Left, bind, turns, run}
-use Rattle.abnf.proofs.Options.{none_some, some_same}
 use Rattle.abnf.proofs.Operators.{seq_in, seq_out, alt_left, alt_right, alt_out, opt_none, byte_out, one_out, differs, the_in, the_out, Many, no_more, one_more, many_in, many_out, many_join, many_map, at_shorter}
 use Rattle.abnf.proofs.Runs.{Off, behind_sound, behind_stays}
 use Rattle.abnf.proofs.Turns.{bind_some, Going, going_run, going_at, Turned, turned_by}
@@ -33,6 +33,10 @@ pub no_name : (s : List ℕ) → cfws s ≡ None → None ≡ name_rest s
 unfolding name_rest
 no_name s e = sym (ap (λ o. bind o (run name_words)) e)
 
+-- each turn leaves less
+pub word_less : (s t u : List ℕ) → word_rest s ≡ Some t → cfws t ≡ Some u → length u < length s
+word_less s t u q r = omega (arith, word_shortens s t q, at_shorter (cfws_sound t u r))
+
 module _ (whole : Left) (s : List ℕ) (g : Going name_words s whole) (some : 1 ≤ length s) where
   cut : s ≡ get_or s 0 0 ∷ tail 1 s
   cut = one_ahead s some
@@ -44,21 +48,8 @@ module _ (whole : Left) (s : List ℕ) (g : Going name_words s whole) (some : 1 
 
   pub past_word : word_first (get_or s 0 0) ≡ true → (t u : List ℕ) → word_rest s ≡ Some t → cfws t ≡ Some u → Turned name_words s u whole
   past_word e t u q r =
-      turned_by name_words whole g.fuel s u g.enough (omega (arith, word_shortens s t q, at_shorter (cfws_sound t u r)))
+      turned_by name_words whole g.fuel s u g.enough (word_less s t u q r)
       (ap (λ o. bind o (turns name_words g.fuel)) (sym r) ∙ at_word e (Some t) q)
-
-  pub no_word : word_first (get_or s 0 0) ≡ true → word_rest s ≡ None → None ≡ whole
-  no_word e q = at_word e None q
-
-  pub open_white : word_first (get_or s 0 0) ≡ true → (t : List ℕ) → word_rest s ≡ Some t → cfws t ≡ None → None ≡ whole
-  open_white e t q r = ap (λ o. bind o (turns name_words g.fuel)) (sym r) ∙ at_word e (Some t) q
-
-  pub name_over : word_first (get_or s 0 0) ≡ false → Some s ≡ whole
-  name_over e = ap Some cut ∙ sym (cond-false (word_first (get_or s 0 0)) _ (Some (get_or s 0 0 ∷ tail 1 s)) e) ∙ going_at g cut
-
-pub name_empty : (whole : Left) (s : List ℕ) → Going name_words s whole → length s < 1 → Some s ≡ whole
-name_empty whole [] g h = going_at g refl
-name_empty whole (b ∷ s) g h = absurd (omega arith)
 
 -- ---- what is left stands behind *word [CFWS]: each word takes the white space before it
 abbrev pub Named : Rule
@@ -74,8 +65,8 @@ named_more f t h =
     seq_in (many_in (one_more w (many_out p.1))) p.2
 
 words_sound : (k : ℕ) (u m : List ℕ) → turns name_words k u ≡ Some m → (s : List ℕ) → At (opt CFWS) s u → At Named s m
-words_sound zero u m e s f = absurd (none_some e)
-words_sound (suc k) [] m e s f = seq_in (many_in no_more) (subst (λ l. At (opt CFWS) s l) (some_same e) f)
+words_sound zero u m e s f = absurd (none-some _ e)
+words_sound (suc k) [] m e s f = seq_in (many_in no_more) (subst (λ l. At (opt CFWS) s l) (same_Some _ _ e) f)
 words_sound (suc k) (b ∷ u) m e s f =
     let on : List ℕ → Left = λ t. bind (cfws t) (turns name_words k) in
     cond_both (word_first b) (bind (word_rest (b ∷ u)) on) (Some (b ∷ u)) (λ o. o ≡ Some m → At Named s m)
@@ -83,7 +74,7 @@ words_sound (suc k) (b ∷ u) m e s f =
     let v = bind_some (word_rest (b ∷ u)) on m q in
     let w = bind_some (cfws v.0) (turns name_words k) m v.2 in
     named_more f (word_reads.sound (b ∷ u) v.0 v.1) (words_sound k w.0 m w.2 v.0 (cfws_sound v.0 w.0 w.1)))
-    (λ _ q. seq_in (many_in no_more) (subst (λ l. At (opt CFWS) s l) (some_same q) f))
+    (λ _ q. seq_in (many_in no_more) (subst (λ l. At (opt CFWS) s l) (same_Some _ _ q) f))
     e
 
 pub name_sound : (s m : List ℕ) → name_rest s ≡ Some m → At Named s m

@@ -1,10 +1,10 @@
 -- addr-spec, and an angle-addr whose "<" was read.
 use Rattle.std.specs.Prelude.{◌≡◌, ℕ, List, ◌∷◌, Some, Option, refl}
 use Rattle.std.proofs.Common.{sym, ap, subst, ◌∙◌}
+use Rattle.std.proofs.lemmas.Option.{same_Some}
 use Rattle.abnf.specs.Abnf.{Rule, ◌⋅◌, opt, byte, At}
 use Rattle.abnf.specs.Classes.{behind_byte}
 use Rattle.abnf.specs.Turns.{bind}
-use Rattle.abnf.proofs.Options.{some_same}
 use Rattle.abnf.proofs.Operators.{seq_in, seq_out, byte_out}
 use Rattle.abnf.proofs.Runs.{Off, byte_sound, byte_complete}
 use Rattle.abnf.proofs.Turns.{bind_some}
@@ -24,7 +24,7 @@ addr_sound s f e =
     let a = bind_some (token_of local_rest s) _ f e in
     let b = bind_some (behind_byte 64 a.0.rest) _ f a.2 in
     let c = bind_some (token_of domain_rest b.0) _ f b.2 in
-    let same = some_same c.2 in
+    let same = same_Some _ _ c.2 in
     let l = split (around_in (token_steps local_reads s a.0 a.1)) in
     let d = split (around_in (token_steps domain_reads b.0 c.0 c.1)) in
     subst (λ (z : Found). At (addr_spec z.address) s z.rest) same (seq_in l (seq_in (byte_sound 64 a.0.rest b.0 b.1) d))
@@ -59,7 +59,7 @@ angle_sound s f e =
     let a = bind_some (addr_spec_of s) _ f e in
     let b = bind_some (behind_byte 62 a.0.rest) _ f a.2 in
     let c = bind_some (cfws b.0) _ f b.2 in
-    subst (λ (z : Found). At (AngleTail z.address) s z.rest) (some_same c.2)
+    subst (λ (z : Found). At (AngleTail z.address) s z.rest) (same_Some _ _ c.2)
     (seq_in (addr_sound s a.0 a.1) (seq_in (byte_sound 62 a.0.rest b.0 b.1) (cfws_sound b.0 c.0 c.1)))
 
 -- up to the ">"

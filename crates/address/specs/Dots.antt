@@ -2,12 +2,12 @@
 use Rattle.std.specs.Prelude.{◌≡◌, ℕ, zero, suc, ◌<◌, ◌≤◌, Bool, false, ◌||◌, List, [], ◌∷◌, length, Some, None, ◌==◌, nat_eq, slice_index_or, refl}
 use Rattle.std.proofs.Common.{sym, ap, subst, ◌∙◌, arith}
 use Rattle.std.proofs.lemmas.Bool.{cond_both, cond-false, eqb-true, or_parts}
+use Rattle.std.proofs.lemmas.Option.{none-some, same_Some}
 use Rattle.fields.specs.Classes.{behind}
 use Rattle.fields.proofs.Patterns.{tail, one_ahead}
 use Rattle.abnf.specs.Abnf.{Rule, ◌⋅◌, ◌∕◌, star, plus, byte, one, At}
 use Rattle.abnf.specs.Classes.{atext, dtext, behind_byte, behind_some}
 use Rattle.abnf.specs.Turns.{Left, bind, turns, run}
-use Rattle.abnf.proofs.Options.{none_some, some_same}
 use Rattle.abnf.proofs.Operators.{seq_in, seq_out, byte_in, byte_out, Many, no_more, one_more, many_in, many_out}
 use Rattle.abnf.proofs.Runs.{Off, Shortens, behind_shorter, behind_sound, behind_complete, one_shortens, byte_sound, byte_complete, some_shortens, some_sound, some_complete}
 use Rattle.abnf.proofs.Turns.{bind_some, Going, going_run, going_at, Turned, turned_by}
@@ -38,12 +38,12 @@ module _ (whole : Left) (s : List ℕ) (g : Going dotted s whole) (some : 1 ≤ 
 
 -- ---- what is left is shorter
 dotted_shorter : (k : ℕ) (s t : List ℕ) → turns dotted k s ≡ Some t → length t ≤ length s
-dotted_shorter zero s t e = absurd (none_some e)
-dotted_shorter (suc k) [] t e = omega (arith, ap length (some_same e))
+dotted_shorter zero s t e = absurd (none-some _ e)
+dotted_shorter (suc k) [] t e = omega (arith, ap length (same_Some _ _ e))
 dotted_shorter (suc k) (b ∷ s) t e =
     cond_both (b == 46) (bind (behind_some atext s) (turns dotted k)) (Some (b ∷ s)) (λ o. o ≡ Some t → length t ≤ suc (length s))
     (λ _ q. let u = bind_some (behind_some atext s) (turns dotted k) t q in omega (arith, some_shortens atext s u.0 u.1, dotted_shorter k u.0 t u.2))
-    (λ _ q. omega (arith, ap length (some_same q)))
+    (λ _ q. omega (arith, ap length (same_Some _ _ q)))
     e
 
 pub dots_shorten : Shortens dot_atom_rest
@@ -52,7 +52,7 @@ dots_shorten s t e =
     let u = bind_some (behind_some atext s) (run dotted) t e in
     omega (arith, some_shortens atext s u.0 u.1, dotted_shorter (suc (length u.0)) u.0 t u.2)
 
-literal_shortens : Shortens literal_rest
+pub literal_shortens : Shortens literal_rest
 literal_shortens s t e = omega (arith, behind_shorter dtext s, one_shortens (λ b. nat_eq b 93) (behind dtext s) t e)
 
 pub local_shortens : Shortens local_rest
@@ -66,14 +66,14 @@ abbrev Next : Rule
 Next = byte 46 ⋅ plus (one atext)
 
 dotted_sound : (k : ℕ) (s t : List ℕ) → turns dotted k s ≡ Some t → Many Next s t
-dotted_sound zero s t e = absurd (none_some e)
-dotted_sound (suc k) [] t e = subst (λ l. Many Next [] l) (some_same e) no_more
+dotted_sound zero s t e = absurd (none-some _ e)
+dotted_sound (suc k) [] t e = subst (λ l. Many Next [] l) (same_Some _ _ e) no_more
 dotted_sound (suc k) (b ∷ s) t e =
     cond_both (b == 46) (bind (behind_some atext s) (turns dotted k)) (Some (b ∷ s)) (λ o. o ≡ Some t → Many Next (b ∷ s) t)
     (λ h q.
     let u = bind_some (behind_some atext s) (turns dotted k) t q in
     one_more (seq_in (byte_in (eqb-true b 46 h)) (some_sound atext s u.0 u.1)) (dotted_sound k u.0 t u.2))
-    (λ _ q. subst (λ l. Many Next (b ∷ s) l) (some_same q) no_more)
+    (λ _ q. subst (λ l. Many Next (b ∷ s) l) (same_Some _ _ q) no_more)
     e
 
 dots_sound : (s t : List ℕ) → dot_atom_rest s ≡ Some t → At dot_atom_text s t

@@ -1,5 +1,7 @@
 -- The addresses of a mailbox-list.
-use Rattle.std.specs.Prelude.{ℕ, zero, suc, Bool, true, false, cond, List, [], ◌∷◌, length, Some, None, Option, ◌==◌, nat_le}
+use Rattle.std.specs.Prelude.{ℕ, zero, suc, cond, List, [], ◌∷◌, length, Some, None, Option, ◌==◌, nat_le}
+use Rattle.std.specs.Option.{unwrap_or}
+use Rattle.abnf.specs.Classes.{behind_byte}
 use Rattle.abnf.specs.Turns.{bind, run}
 use Rattle.address.specs.Rfc5322.{Addr, most_addresses}
 use Rattle.address.specs.Reads.{Found, mailbox_of}
@@ -22,9 +24,9 @@ abbrev pub mailbox_list_of : List ℕ → Option (List Addr)
 mailbox_list_of s = bind (run listed s) few_enough
 
 -- ---- the addresses that bytes begin with, up to the first that is none
+-- behind a comma, or nothing
 abbrev pub behind_comma : List ℕ → List ℕ
-behind_comma [] = []
-behind_comma (b ∷ s) = cond (b == 44) s []
+behind_comma s = unwrap_or (behind_byte 44 s) []
 
 abbrev pub addresses_on : (List ℕ → List Addr) → Option Found → List Addr
 addresses_on again None = []
@@ -36,12 +38,3 @@ addresses_by (suc k) s = addresses_on (addresses_by k) (mailbox_of s)
 
 unfoldable pub addresses : List ℕ → List Addr
 addresses s = addresses_by (suc (length s)) s
-
--- the first and the others
-abbrev pub parted : List Addr → Option (Addr × List Addr)
-parted [] = None
-parted (a ∷ others) = Some (a, others)
-
-abbrev pub is_some : {A : Type 0} → Option A → Bool
-is_some None = false
-is_some (Some x) = true

@@ -3,12 +3,12 @@ use Rattle.std.specs.Prelude.{◌≡◌, ℕ, false, List, [], ◌∷◌, Some, 
 use Rattle.std.proofs.Common.{⊎_elim, sym, ap, subst, ◌∙◌, arith}
 use Rattle.std.specs.Option.{option_map}
 use Rattle.std.proofs.lemmas.Bool.{cond-false}
+use Rattle.std.proofs.lemmas.Option.{none-some, same_Some}
 use Rattle.fields.specs.Fields.{Placed}
 use Rattle.abnf.specs.Abnf.{◌∕◌, opt, byte, At}
 use Rattle.abnf.specs.Exact.{Exactly, itself}
 use Rattle.abnf.specs.Classes.{atext, behind_byte}
 use Rattle.abnf.specs.Turns.{Left, bind}
-use Rattle.abnf.proofs.Options.{none_some, some_same}
 use Rattle.abnf.proofs.Operators.{seq_in, seq_out, alt_out, byte_out, whole_in, whole_out}
 use Rattle.abnf.proofs.Runs.{Off, Shortens, one_shortens, byte_sound, byte_complete}
 use Rattle.abnf.proofs.Turns.{bind_some}
@@ -26,8 +26,8 @@ use Rattle.address.specs.Addresses.{addr_sound, addr_closed}
 
 -- ---- what fills the bytes
 at_end_some : {A : Type 0} (x y : A) (s : List ℕ) → at_end x s ≡ Some y → (s ≡ []) × (x ≡ y)
-at_end_some x y [] e = (refl, some_same e)
-at_end_some x y (b ∷ s) e = absurd (none_some e)
+at_end_some x y [] e = (refl, same_Some _ _ e)
+at_end_some x y (b ∷ s) e = absurd (none-some _ e)
 
 to_end_sound : {A : Type 0} (x y : A) (s : List ℕ) → to_end x s ≡ Some y → At (opt CFWS) s [] × (x ≡ y)
 to_end_sound x y s e =

@@ -4,18 +4,16 @@ ghost use Rattle.std.specs.Option.{option_map};
 ghost use Rattle.abnf.specs.Exact.{Exactly, itself};
 ghost use Rattle.address.specs.Rfc5322.{path};
 ghost use Rattle.address.specs.Reads.{null_rest, to_end, path_from, path_of};
-ghost use Rattle.address.specs.Seen.{path_told};
+ghost use Rattle.address.specs.Seen.{addr, path_told};
 
 use crate::addr_spec::{Address, addr_spec};
 use abnf::classes::skip_byte;
 use lexical::white::skip_cfws;
 
-// Where a message goes back to.
+// Where a message goes back to: to nobody for "<>".
 #[derive(Clone, Copy)]
-pub enum Path<'a> {
-    // To nobody: "<>".
-    Null,
-    To(Address<'a>),
+pub struct Path<'a> {
+    pub to: Option<Address<'a>>,
 }
 
 // What stands behind [CFWS] ">".
@@ -25,14 +23,11 @@ fn skip_null<'a>(s: &'a [u8]) -> Option<&'a [u8]>
     skip_byte(skip_cfws(s)?, b'>')
 }
 
-// The path, where [CFWS] and no more stands behind it.
-fn ended<'a>(path: Path<'a>, s: &'a [u8]) -> Option<Path<'a>>
-    ensures { option_map path_told result ≡ to_end (path_told path.entry) s.now }
+// The path to `to`, where [CFWS] and no more stands behind it.
+fn ended<'a>(to: Option<Address<'a>>, s: &'a [u8]) -> Option<Path<'a>>
+    ensures { option_map path_told result ≡ to_end (option_map addr to.entry) s.now }
 {
-    match skip_cfws(s)? {
-        [] => Some(path),
-        _ => None,
-    }
+    skip_cfws(s)?.is_empty().then_some(Path { to })
 }
 
 // A path whose "<" was read.
@@ -40,24 +35,19 @@ fn path_from<'a>(s: &'a [u8]) -> Option<Path<'a>>
     ensures { option_map path_told result ≡ path_from (null_rest s.now) s.now }
 {
     match skip_null(s) {
-        Some(rest) => ended(Path::Null, rest),
+        Some(rest) => ended(None, rest),
         None => {
             let to = addr_spec(s)?;
-            ended(Path::To(to.address), skip_byte(to.rest, b'>')?)
+            ended(Some(to.value), skip_byte(to.rest, b'>')?)
         }
     }
 }
 
-fn path_of<'a>(body: &'a [u8]) -> Option<Path<'a>>
-    ensures { option_map path_told result ≡ path_of body.now }
-{
-    path_from(skip_byte(skip_cfws(body)?, b'<')?)
-}
-
 // The path that `body` is.
+#[tactic(auto, using(crate::specs::Paths::path_exact))]
 pub fn read_path<'a>(body: &'a [u8]) -> Option<Path<'a>>
     ensures answers { option_map path_told result ≡ path_of body.now }
     ensures exactly { Exactly path itself body.now (option_map path_told result) }
 {
-    path_of(body)
+    path_from(skip_byte(skip_cfws(body)?, b'<')?)
 }

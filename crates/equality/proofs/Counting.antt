@@ -1,9 +1,7 @@
 -- `distinct` is the number of classes.
-use Rattle.std.proofs.Common.{◌≡◌, ℕ, ◌+◌, ◌≤◌, Bool, true, false, cond, List, [], ◌∷◌, length, Some, None, sym, refl, ap, ◌∙◌, subst, inl, inr, ⊎_elim, arith}
+use Rattle.std.proofs.Common.{◌≡◌, ℕ, ◌+◌, ◌≤◌, Bool, true, false, cond, List, [], ◌∷◌, length, sym, refl, ap, ◌∙◌, subst, inl, inr, ⊎_elim, arith}
 use Rattle.std.proofs.lemmas.Bool.{cond_both, or_left, or_right, or_parts, or_from, or_cases, both_ways}
-use Rattle.abnf.proofs.Options.{none_some, some_same}
 use Rattle.address.specs.Rfc5322.{Addr}
-use Rattle.address.specs.Lists.{parted}
 use Rattle.equality.specs.Equality.{same_address}
 use Rattle.equality.specs.Distinct.{among, counts, distinct, In, AllDiffer, Classes}
 use Rattle.equality.proofs.Laws.{same_itself, same_on}
@@ -77,14 +75,6 @@ pub classes : (xs : List Addr) → Classes xs (distinct xs)
 classes xs = record { chosen = chosen_of xs; number = chosen_number xs; of_the_list = in_chosen xs; differ = chosen_differ xs; stand_for_all = chosen_all xs }
 
 -- ---- the loops over a list
-pub parted_some : (xs : List Addr) (a : Addr) (others : List Addr) → Some (a, others) ≡ parted xs → xs ≡ a ∷ others
-parted_some [] a others e = absurd (none_some (sym e))
-parted_some (x ∷ xs) a others e = let p = some_same e in sym (ap (λ (z : Addr × List Addr). z.0 ∷ z.1) p)
-
-pub parted_end : (xs : List Addr) → None ≡ parted xs → xs ≡ []
-parted_end [] e = refl
-parted_end (x ∷ xs) e = absurd (none_some e)
-
 pub counts_few : (a : Addr) (others : List Addr) → counts a others ≤ 1
 counts_few a others = cond_both (among a others) 0 1 (λ n. n ≤ 1) (λ _. omega arith) (λ _. omega arith)
 
@@ -102,11 +92,10 @@ unfolding distinct
 distinct_none = refl
 
 -- one turn
-pub count_more : (n k : ℕ) (xs others whole : List Addr) (a : Addr) → n + distinct xs ≡ distinct whole → Some (a, others) ≡ parted xs → k ≡ counts a others → n + k + distinct others ≡ distinct whole
+pub count_more : (n k : ℕ) (xs others whole : List Addr) (a : Addr) → n + distinct xs ≡ distinct whole → xs ≡ a ∷ others → k ≡ counts a others → n + k + distinct others ≡ distinct whole
 count_more n k xs others whole a h p e =
-    let q = parted_some xs a others p in
-    let d : distinct xs ≡ counts a others + distinct others = ap distinct q ∙ distinct_on a others in
+    let d : distinct xs ≡ counts a others + distinct others = ap distinct p ∙ distinct_on a others in
     omega (arith, h, d, e)
 
-pub count_over : (n : ℕ) (xs whole : List Addr) → n + distinct xs ≡ distinct whole → None ≡ parted xs → n ≡ distinct whole
-count_over n xs whole h p = let d : distinct xs ≡ 0 = ap distinct (parted_end xs p) ∙ distinct_none in omega (arith, h, d)
+pub count_over : (n : ℕ) (xs whole : List Addr) → n + distinct xs ≡ distinct whole → xs ≡ [] → n ≡ distinct whole
+count_over n xs whole h p = let d : distinct xs ≡ 0 = ap distinct p ∙ distinct_none in omega (arith, h, d)

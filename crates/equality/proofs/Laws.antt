@@ -1,9 +1,9 @@
 -- The equality of addresses is an equivalence.
-use Rattle.std.proofs.Common.{◌≡◌, true, false, ◌&&◌, map, sym, refl, ap, ◌∙◌, ⊎_elim}
+use Rattle.std.proofs.Common.{◌≡◌, true, map, sym, refl, ◌∙◌}
 use Rattle.std.specs.Char.{to_ascii_lowercase}
 use Rattle.std.specs.Str.{bytes_eq}
 use Rattle.std.proofs.lemmas.Slice.Eq.{bytes_eq-Decides}
-use Rattle.std.proofs.lemmas.Bool.{and_parts, and_from, cases_Bool}
+use Rattle.std.proofs.lemmas.Bool.{and_parts, and_from}
 use Rattle.abnf.specs.Strings.{alike}
 use Rattle.abnf.proofs.Spelling.{alike_decides}
 use Rattle.address.specs.Rfc5322.{Addr}
@@ -33,12 +33,3 @@ same_back a b e = let s = same_out a b e in same_in b a (record { locals = sym s
 
 pub same_on : (a b c : Addr) → same_address a b ≡ true → same_address b c ≡ true → same_address a c ≡ true
 same_on a b c e f = let s = same_out a b e in let t = same_out b c f in same_in a c (record { locals = s.locals ∙ t.locals; domains = s.domains ∙ t.domains })
-
--- as the code tells
-pub same_by : (a b : Addr) → a.local ≡ b.local → alike a.domain b.domain ≡ same_address a b
-unfolding same_address
-same_by a b e = sym (ap (λ t. t && alike a.domain b.domain) ((bytes_eq-Decides a.local b.local).1 e))
-
-pub same_not : (a b : Addr) → (a.local ≡ b.local → ⊥) → false ≡ same_address a b
-unfolding same_address
-same_not a b h = ⊎_elim (λ t. absurd (h ((bytes_eq-Decides a.local b.local).0 t))) (λ f. sym (ap (λ t. t && alike a.domain b.domain) f)) (cases_Bool (bytes_eq a.local b.local))

@@ -1,12 +1,12 @@
 -- How many different addresses a list has.
-use Rattle.std.specs.Prelude.{◌≡◌, ℕ, ◌+◌, Bool, true, false, cond, ◌||◌, ◌⊎◌, List, [], ◌∷◌, length}
+use Rattle.std.specs.Prelude.{◌≡◌, ℕ, ◌+◌, Bool, true, false, cond, ◌⊎◌, List, [], ◌∷◌, length}
+use Rattle.std.specs.List.{list_any}
 use Rattle.address.specs.Rfc5322.{Addr}
 use Rattle.equality.specs.Equality.{same_address}
 
 -- the same address stands in the list
 abbrev pub among : Addr → List Addr → Bool
-among a [] = false
-among a (x ∷ xs) = same_address a x || among a xs
+among a xs = list_any (same_address a) xs
 
 -- an address counts where it stands last
 abbrev pub counts : Addr → List Addr → ℕ

@@ -4,13 +4,15 @@
 ghost use Rattle.std.specs.Prelude.{◌≡◌, ℕ};
 ghost use Rattle.address.specs.Seen.{addr, listing};
 ghost use Rattle.equality.specs.Equality.{same_address};
-ghost use Rattle.equality.specs.Distinct.{among, counts, distinct, Classes};
+ghost use Rattle.equality.specs.Distinct.{among, distinct, Classes};
 
 use abnf::strings::is_alike;
 use address::addr_spec::Address;
-use address::mailbox::{First, Mailboxes};
+use address::mailbox::Mailboxes;
 
 // Local parts are compared as written, domains without the case of ASCII letters.
+// By hand, since a derived `==` would compare the domains as written too.
+#[tactic(auto, unfolding(crate::specs::Equality::same_address))]
 pub fn is_same(a: Address, b: Address) -> bool
     ensures { result ≡ same_address (addr a.entry) (addr b.entry) }
 {
@@ -18,41 +20,22 @@ pub fn is_same(a: Address, b: Address) -> bool
 }
 
 // Whether the same address stands in the list.
-fn is_among(address: Address, list: Mailboxes) -> bool
+fn is_among(address: Address, mut list: Mailboxes) -> bool
     ensures { result ≡ among (addr address.entry) (listing list.entry) }
 {
-    let mut rest = list;
-    while let Some(next) = rest.first() {
-        if is_same(address, next.address) {
-            return true;
-        }
-        rest = next.others;
-    }
-    false
+    list.any(|other| is_same(address, other))
 }
 
-// An address counts where it stands last.
-fn counts(first: First) -> usize
-    ensures { result ≡ counts (addr first.entry.address) (listing first.entry.others) }
-{
-    if is_among(first.address, first.others) {
-        0
-    } else {
-        1
-    }
-}
-
-// How many different addresses the list has.
-pub fn distinct(list: Mailboxes) -> usize
+// How many different addresses the list has: each counts where it stands last.
+pub fn distinct(mut list: Mailboxes) -> usize
     ensures counted { result ≡ distinct (listing list.entry) }
     ensures classes { Classes (listing list.entry) result }
     ensures alone { (n : ℕ) → Classes (listing list.entry) n → n ≡ result }
 {
-    let mut rest = list;
     let mut count = 0;
-    while let Some(next) = rest.first() {
-        count += counts(next);
-        rest = next.others;
+    // A `for` would not lend what is left of the list.
+    while let Some(address) = list.next() {
+        count += usize::from(!is_among(address, list));
     }
     count
 }

@@ -1,11 +1,10 @@
 -- The examples, computed.
-use Rattle.std.proofs.Common.{◌≡◌, true, false, [], ◌∷◌, Some, Ok, Err, codes, refl, ap, ◌∙◌}
+use Rattle.std.proofs.Common.{◌≡◌, true, false, [], ◌∷◌, None, Some, Ok, Err, Result, MatchResult, codes, refl, ap, ◌∙◌}
 use Rattle.fields.specs.declared.refusal.Refusal.{Refusal}
 use Rattle.abnf.specs.Strings.{alike}
-use Rattle.abnf.proofs.Options.{none_some, some_same}
 use Rattle.fields.specs.Lines.{texts}
 use Rattle.fields.specs.Fields.{cut}
-use Rattle.fields.specs.Walks.{told, walked}
+use Rattle.fields.specs.Walks.{meaning, told, walked}
 use Rattle.lexical.specs.Reads.{cfws, quoted_rest}
 use Rattle.address.specs.Reads.{dot_atom_rest, addr_spec_of, name_rest, mailbox_of}
 use Rattle.address.specs.Lists.{mailbox_list_of}
@@ -13,7 +12,9 @@ use Rattle.equality.specs.Equality.{same_address}
 use Rattle.equality.specs.Distinct.{distinct}
 use Rattle.header.specs.Names.{known_as}
 use Rattle.header.specs.Collected.{collects}
-use Rattle.header.specs.Facts.{Said, header_of}
+use Rattle.header.specs.declared.facts.Facts.{Facts}
+use Rattle.header.specs.Facts.{header_of}
+use Rattle.header.specs.Seen.{facts_said}
 use Rattle.examples.specs.Starred.{order, agrees_in, at_x, Starred}
 
 pub order_agrees : agrees_in (header_of order) ≡ Some true
@@ -36,8 +37,6 @@ pub stars : Starred
 stars = record { order_agrees = order_agrees; case_counts = case_counts; quotes_count = quotes_count; quotes_are_read = quotes_are_read }
 
 -- as the code tells
-pub agrees_told : (x : Said) → Ok x ≡ header_of order → x.agrees ≡ true
-agrees_told x e = some_same (ap agrees_in e ∙ order_agrees)
-
-pub not_refused : (why : Refusal) → Err why ≡ header_of order → ⊥
-not_refused why e = none_some (ap agrees_in e ∙ order_agrees)
+pub agrees_told : (r : Result Facts Refusal) → meaning facts_said r ≡ header_of order → MatchResult r (λ x. x.agrees ≡ true) (λ _. ⊥)
+agrees_told (Ok x) e = let a : Some x.agrees ≡ Some true = ap agrees_in e ∙ order_agrees in cc
+agrees_told (Err why) e = let a : None ≡ Some true = ap agrees_in e ∙ order_agrees in cc

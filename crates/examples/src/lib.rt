@@ -16,10 +16,7 @@ const ORDER: &[u8] = b"Return-Path: <a@x.org>\r\nDisposition-Notification-To: a@
 fn order_agrees() -> bool
     ensures { result ≡ true }
 {
-    match read_header(ORDER) {
-        Ok(facts) => facts.agrees,
-        Err(_) => false,
-    }
+    read_header(ORDER).is_ok_and(|facts| facts.agrees)
 }
 
 // Whether these local parts at x.org are two addresses.
@@ -31,6 +28,7 @@ fn differ(a: &[u8], b: &[u8]) -> bool
 }
 
 // All examples hold, as they are read and as they are proved.
+#[tactic(auto, using(crate::proofs::Stars::case_counts, crate::proofs::Stars::quotes_count, crate::proofs::Stars::stars))]
 pub fn starred() -> bool
     ensures holds { result ≡ true }
     ensures proved { Starred }

@@ -1,6 +1,7 @@
 // The edges of lines and fields: each line of the input is a case, and is printed with its answer.
 #![tactic(auto)]
 
+use cases::{Answers, Case, answer_all};
 use fields::field::Form;
 use fields::walk::walk;
 use picky::Picky;
@@ -10,47 +11,39 @@ use std::io;
 mod picky;
 
 fn main(rt: HostRuntime) -> anyhow::Result<()> {
-    run(&rt)
+    answer_all::<Walks>(&rt)
 }
 
-fn run(rt: &HostRuntime) -> anyhow::Result<()> {
-    for line in rt.lines(rt.alloc()) {
-        let line = line?;
-        let case = line.as_str();
-        match case.split_once(' ') {
-            Some(("header", text)) => answer(rt, case, Form::Header, text)?,
-            Some(("report", text)) => answer(rt, case, Form::Report, text)?,
-            _ => println!(rt; "{case}")?,
+// Walks headers and reports.
+struct Walks;
+
+impl Answers for Walks {
+    fn answer(case: Case) -> anyhow::Result<()> {
+        match case.line.split_once(' ') {
+            Some(("header", text)) => walked(case, Form::Header, text),
+            Some(("report", text)) => walked(case, Form::Report, text),
+            _ => Ok(case.print_line()?),
         }
+    }
+}
+
+fn walked(case: Case, form: Form, text: &str) -> anyhow::Result<()> {
+    let input = spelled(case.rt.alloc(), text)?;
+    match walk(form, input.as_slice(), Picky { last: None }) {
+        Ok(picky) => accepted(case, picky)?,
+        Err(why) => case.print_refusal(why)?,
     }
     Ok(())
 }
 
-fn answer(rt: &HostRuntime, case: &str, form: Form, text: &str) -> anyhow::Result<()> {
-    let input = spelled(rt.alloc(), text)?;
-    let answer = walk(form, input.as_slice(), Picky { last: None });
-    match answer {
-        Ok(picky) => accepted(rt, case, picky)?,
-        Err(why) => {
-            let n = why.numbers();
-            let number = n.number;
-            let layer = n.layer;
-            let field = n.field;
-            let byte = n.byte;
-            println!(rt; "{case}   [{number}, {layer}, {field}, {byte}]")?;
-        }
-    }
-    Ok(())
-}
-
-fn accepted(rt: &HostRuntime, case: &str, picky: Picky) -> io::Result<()> {
+fn accepted(case: Case, picky: Picky) -> io::Result<()> {
     match picky.last {
         Some(last) => {
             let name = last.name.at;
             let body = last.body.at;
             let size = last.body.text.len();
-            println!(rt; "{case}   last field at {name}, its body of {size} at {body}")
+            case.print(format_args!("last field at {name}, its body of {size} at {body}"))
         }
-        None => println!(rt; "{case}   no field"),
+        None => case.print("no field"),
     }
 }

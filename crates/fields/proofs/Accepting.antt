@@ -1,5 +1,5 @@
 -- A walk accepts inputs and nothing else.
-use Rattle.std.proofs.Common.{◌≡◌, ℕ, suc, ◌+◌, ◌≤◌, ltb, List, [], ◌∷◌, length, Ok, Err, Result, sym, refl, ap, ◌∙◌, arith}
+use Rattle.std.proofs.Common.{◌≡◌, ℕ, suc, ◌+◌, ◌≤◌, true, ltb, List, [], ◌∷◌, length, Ok, Err, Result, sym, refl, ap, ◌∙◌, arith}
 use Rattle.std.proofs.lemmas.Bool.{cond-false, cond_both, le-ltb, ltb-false}
 use Rattle.fields.specs.declared.field.Form.{Form}
 use Rattle.fields.specs.declared.refusal.Place.{Place}
@@ -10,8 +10,10 @@ use Rattle.fields.specs.Limits.{longest_input, most_fields}
 use Rattle.fields.specs.Fields.{PlacedField, Ending, whole, fault, Cut, fields_of}
 use Rattle.fields.specs.Walks.{place, taken, told, walked}
 use Rattle.fields.specs.Built.{all_told, Input, InputUpTo, WalkExactly}
+use Rattle.fields.specs.Clean.{all_clean}
 use Rattle.fields.proofs.Building.{cut_exactly}
 use Rattle.fields.proofs.Stopping.{input_up_to}
+use Rattle.fields.proofs.Cleaning.{fields_clean}
 
 err_ok : {A E : Type 0} {a : A} {e : E} → ◌≡◌ {A = Result A E} (Err e) (Ok a) → ⊥
 err_ok q = let z : ◌≡◌ {A = ℕ} 0 1 = cc in omega arith
@@ -106,3 +108,8 @@ module _ {S : Type 0} (step : S → PlacedField → Result S Objection) where
 
     pub walk_exactly : (r : Result S Refusal) → r ≡ walked step s form input → WalkExactly step s form input r
     walk_exactly r e = record { cuts = cut_exactly form input; accepted = λ t h. walked_accepts t (sym e ∙ h); tells = λ fs i. e ∙ walked_tells fs i; stops = λ p h. walked_stops p (sym e ∙ h) }
+
+-- the three promises of a walk, of an answer that is what the walk means
+pub answered : {S : Type 0} (step : S → PlacedField → Result S Objection) (s : S) (form : Form) (input : List ℕ) (r : Result S Refusal) → r ≡ walked step s form input
+    → record { walks : r ≡ walked step s form input; exactly : WalkExactly step s form input r; clean : all_clean (fields_of form input).fields ≡ true }
+answered step s form input r is = record { walks = is; exactly = walk_exactly step s form input r is; clean = fields_clean form input }

@@ -2,13 +2,14 @@
 use Rattle.std.proofs.Common.{◌≡◌, ℕ, suc, ◌+◌, ◌-◌, ◌≤◌, true, false, not, ◌&&◌, eqb, leb, List, [], ◌∷◌, ◌++◌, length, Some, None, sym, refl, ap, ◌∙◌, subst, ⊎_elim, arith, length-append}
 use Rattle.std.proofs.lemmas.Bool.{cond-true, cond-false, cond_both, and_parts, and_from, and_left, and_right, both_ways, cases_Bool, eqb-true, le-leb, not_from_true}
 use Rattle.std.proofs.lemmas.List.{append_assoc}
+use Rattle.std.proofs.lemmas.Option.{none-some}
 use Rattle.fields.specs.declared.field.Form.{Form}
 use Rattle.fields.specs.Limits.{longest_line}
 use Rattle.fields.specs.Classes.{wsp, ftext, plain, every, front, behind}
 use Rattle.fields.specs.Lines.{onto, texts, sound, indented, blank}
 use Rattle.fields.specs.Fields.{PlacedField, field_at, continued, Cut, whole, fault, stop, continues, spoils, faulty, opening, continuing, closing, by_role, cut}
 use Rattle.fields.specs.Scans.{at_crlf, line_end, fold_start, fold_end}
-use Rattle.fields.proofs.Parting.{parted, no_crlf, plain_cr, texts_on, texts_line, every_sub, wsp_plain, none_some, crlf_is, LineAt, line_at, no_line}
+use Rattle.fields.proofs.Parting.{parted, no_crlf, plain_cr, texts_on, texts_line, every_sub, wsp_plain, crlf_is, LineAt, line_at, no_line}
 use Rattle.fields.proofs.Cutting.{parts_of, front_every, behind_is, cut_line, cut_closes}
 use Rattle.fields.proofs.Opening.{role_continues, sound_parts, sound_from, Open}
 
@@ -19,9 +20,9 @@ pub record FoldAt (end line : List ℕ) : Type 0 where
   pub end_is : end ≡ 13 ∷ 10 ∷ white ∷ line
 
 pub fold_at : (end line : List ℕ) → fold_start end ≡ Some line → FoldAt end line
-fold_at [] line e = absurd (none_some e)
-fold_at (a ∷ []) line e = absurd (none_some e)
-fold_at (a ∷ b ∷ []) line e = absurd (none_some e)
+fold_at [] line e = absurd (none-some _ e)
+fold_at (a ∷ []) line e = absurd (none-some _ e)
+fold_at (a ∷ b ∷ []) line e = absurd (none-some _ e)
 fold_at (a ∷ b ∷ c ∷ s) line e =
     cond_both ((eqb a 13 && eqb b 10) && wsp c) (Some s) None (λ o. o ≡ Some line → FoldAt (a ∷ b ∷ c ∷ s) line)
     (λ h q.
@@ -31,7 +32,7 @@ fold_at (a ∷ b ∷ c ∷ s) line e =
     let lf : b ≡ 10 = eqb-true b 10 y.1 in
     let same : s ≡ line = cc in
     record { white = c; is_white = x.1; end_is = cc })
-    (λ _ n. absurd (none_some n))
+    (λ _ n. absurd (none-some _ n))
     e
 
 pub fold_size : (end line : List ℕ) → Some line ≡ fold_start end → length end ≡ length line + 3
@@ -40,7 +41,7 @@ fold_size end line e = ap length (fold_at end line (sym e)).end_is ∙ omega ari
 -- a CRLF that starts no fold
 pub not_indented : (rest : List ℕ) → fold_start (13 ∷ 10 ∷ rest) ≡ None → indented rest ≡ false
 not_indented [] e = refl
-not_indented (c ∷ s) e = cond_both (wsp c) (Some s) None (λ o. o ≡ None → wsp c ≡ false) (λ _ n. absurd (none_some (sym n))) (λ h _. h) e
+not_indented (c ∷ s) e = cond_both (wsp c) (Some s) None (λ o. o ≡ None → wsp c ≡ false) (λ _ n. absurd (none-some _ (sym n))) (λ h _. h) e
 
 -- white space alone up to the line's end
 blank_line : (t rest : List ℕ) → at_crlf (behind wsp (t ++ 13 ∷ 10 ∷ rest)) ≡ false → every wsp t ≡ false
@@ -51,7 +52,7 @@ blank_line t rest h =
 pub fold_line : (line end : List ℕ) → fold_end line ≡ Some end → (l : LineAt (longest_line - 1) line end) × (every wsp l.text ≡ false)
 fold_line line end e =
     cond_both (at_crlf (behind wsp line)) None (line_end (longest_line - 1) line) (λ o. o ≡ Some end → (l : LineAt (longest_line - 1) line end) × (every wsp l.text ≡ false))
-    (λ _ n. absurd (none_some n))
+    (λ _ n. absurd (none-some _ n))
     (λ h q.
     let l = line_at end (longest_line - 1) line q in
     (l, blank_line l.text l.rest (subst (λ s. at_crlf (behind wsp s) ≡ false) (l.whole_is ∙ ap (λ x. l.text ++ x) l.end_is) h)))

@@ -2,13 +2,14 @@
 use Rattle.std.proofs.Common.{◌≡◌, ℕ, suc, ◌+◌, ◌-◌, ◌<◌, ◌≤◌, Bool, true, false, not, ◌&&◌, eqb, leb, List, [], ◌∷◌, ◌++◌, length, Some, None, Option, sym, refl, ap, ◌∙◌, arith, length-append}
 use Rattle.std.proofs.lemmas.Bool.{cond-true, cond-false, cond_both, and_parts, and_from, both_ways, eqb-true, leb-true, le-leb, not_from_false}
 use Rattle.std.proofs.lemmas.List.{append_assoc}
+use Rattle.std.proofs.lemmas.Option.{none-some}
 use Rattle.fields.specs.declared.field.Form.{Form}
 use Rattle.fields.specs.Limits.{longest_line}
 use Rattle.fields.specs.Classes.{wsp, ftext, plain, every, starts, front, behind}
 use Rattle.fields.specs.Lines.{onto, texts, sound, indented, blank}
 use Rattle.fields.specs.Fields.{PlacedField, field_at, continued, fault, stop, opens, continues, spoils, faulty, named, opening, continuing, role, by_role, cut}
 use Rattle.fields.specs.Scans.{line_end, past_colon, no_field}
-use Rattle.fields.proofs.Parting.{parted, no_crlf, texts_on, texts_front, texts_line, first_starts, every_sub, ftext_plain, ftext_not_wsp, none_some, line_at, no_line}
+use Rattle.fields.proofs.Parting.{parted, no_crlf, texts_on, texts_front, texts_line, first_starts, every_sub, ftext_plain, ftext_not_wsp, line_at, no_line}
 use Rattle.fields.proofs.Cutting.{parts_of, front_every, behind_stops, front_is, behind_is, cut_line, first_fault}
 
 pub every_append : (p : ℕ → Bool) (s t : List ℕ) → every p s ≡ true → every p t ≡ true → every p (s ++ t) ≡ true
@@ -49,7 +50,7 @@ fault_first form at (b ∷ t) ts l h = first_fault form at b t ts h
 
 no_colon : (s : List ℕ) → past_colon s ≡ None → starts (λ b. eqb b 58) s ≡ false
 no_colon [] e = refl
-no_colon (b ∷ s) e = cond_both (eqb b 58) (Some s) None (λ o. o ≡ None → eqb b 58 ≡ false) (λ _ n. absurd (none_some (sym n))) (λ h _. h) e
+no_colon (b ∷ s) e = cond_both (eqb b 58) (Some s) None (λ o. o ≡ None → eqb b 58 ≡ false) (λ _ n. absurd (none-some _ (sym n))) (λ h _. h) e
 
 named_none : (at : ℕ) (n t : List ℕ) → starts (λ b. eqb b 58) t ≡ false → named at n t ≡ faulty
 named_none at [] t h = refl
@@ -75,16 +76,12 @@ fault_no_colon form at s o q =
     ∙ named_none at n p.first (first_starts (λ b. eqb b 58) r p.first p.others p.are (no_colon r q)))
 
 colon_is : (s text : List ℕ) → past_colon s ≡ Some text → s ≡ 58 ∷ text
-colon_is [] text e = absurd (none_some e)
+colon_is [] text e = absurd (none-some _ e)
 colon_is (b ∷ s) text e =
     cond_both (eqb b 58) (Some s) None (λ o. o ≡ Some text → b ∷ s ≡ 58 ∷ text)
     (λ h q. let x : b ≡ 58 = eqb-true b 58 h in let y : s ≡ text = cc in cc)
-    (λ _ n. absurd (none_some n))
+    (λ _ n. absurd (none-some _ n))
     e
-
--- as a reader finds it: r is what is left behind the name
-pub behind_name : (s r text : List ℕ) → r ≡ behind ftext s → Some text ≡ past_colon r → past_colon (behind ftext s) ≡ Some text
-behind_name s r text a b = ap past_colon (sym a) ∙ sym b
 
 -- the parts of a sound line
 pub sound_parts : (t : List ℕ) → sound t ≡ true → (every plain t ≡ true) × (length t ≤ longest_line)

@@ -3,6 +3,7 @@ use Rattle.std.proofs.Common.{◌≡◌, ℕ, zero, suc, ◌≤◌, Bool, true, 
 use Prim.Native.Nat.compare
 use Rattle.std.proofs.lemmas.Bool.{cond-false, cond_both, and_parts, and_left, and_right, and_from, or_parts, not-true, eqb-true, ne_eqb, leb-true, lt-leb, or_cases, both_ways}
 use Rattle.std.proofs.lemmas.List.{append-nil}
+use Rattle.std.proofs.lemmas.Option.{none-some}
 use Rattle.fields.specs.Classes.{wsp, ftext, plain, every, starts}
 use Rattle.fields.specs.Lines.{onto, texts}
 use Rattle.fields.specs.Scans.{at_crlf, line_end}
@@ -89,9 +90,6 @@ first_starts g (b ∷ c ∷ s) t ts e h =
     ap (starts g) (sym same) ∙ h)
     e
 
-pub none_some : {A : Type 0} {a : A} → ◌≡◌ {A = Option A} None (Some a) → ⊥
-none_some e = let z : ◌≡◌ {A = ℕ} 0 1 = cc in omega arith
-
 pub crlf_is : (s : List ℕ) → at_crlf s ≡ true → (u : List ℕ) × (s ≡ 13 ∷ 10 ∷ u)
 crlf_is [] e = absurd (both_ways false refl e)
 crlf_is (a ∷ []) e = absurd (both_ways false refl e)
@@ -122,13 +120,13 @@ module _ (e : List ℕ) where
       record { text = b ∷ l.text; rest = l.rest; whole_is = ap (λ t. b ∷ t) l.whole_is; end_is = l.end_is; plains = and_from (plain b) (every plain l.text) h l.plains; fits = omega arith }
 
   pub line_at : (room : ℕ) (s : List ℕ) → line_end room s ≡ Some e → LineAt room s e
-  line_at room [] q = absurd (none_some q)
+  line_at room [] q = absurd (none-some _ q)
   line_at zero (b ∷ s) q =
-      cond_both (at_crlf (b ∷ s)) (Some (b ∷ s)) None (λ o. o ≡ Some e → LineAt zero (b ∷ s) e) (line_here zero (b ∷ s)) (λ _ n. absurd (none_some n)) q
+      cond_both (at_crlf (b ∷ s)) (Some (b ∷ s)) None (λ o. o ≡ Some e → LineAt zero (b ∷ s) e) (line_here zero (b ∷ s)) (λ _ n. absurd (none-some _ n)) q
   line_at (suc k) (b ∷ s) q =
       let P : Option (List ℕ) → Type 0 = λ o. o ≡ Some e → LineAt (suc k) (b ∷ s) e in
       cond_both (at_crlf (b ∷ s)) (Some (b ∷ s)) (cond (plain b) (line_end k s) None) P (line_here (suc k) (b ∷ s))
-      (λ _. cond_both (plain b) (line_end k s) None P (λ h n. line_further k b s h (line_at k s n)) (λ _ n. absurd (none_some n)))
+      (λ _. cond_both (plain b) (line_end k s) None P (λ h n. line_further k b s h (line_at k s n)) (λ _ n. absurd (none-some _ n)))
       q
 
 -- the first text of b ∷ s is one byte longer than that of s
@@ -145,13 +143,13 @@ unfolding texts
 no_line room [] t u us q e = let z : ◌≡◌ {A = ℕ} 0 1 = cc in absurd (omega arith)
 no_line zero (b ∷ s) t u us q e =
     let Q : Type 0 = (every plain t && leb (length t) zero) ≡ false in
-    cond_both (at_crlf (b ∷ s)) (Some (b ∷ s)) None (λ o. o ≡ None → Q) (λ _ n. absurd (none_some (sym n)))
+    cond_both (at_crlf (b ∷ s)) (Some (b ∷ s)) None (λ o. o ≡ None → Q) (λ _ n. absurd (none-some _ (sym n)))
     (λ h _. let x = shifted b s t u us e h in rw x.1 (and_right (plain b && every plain x.0) (leb (suc (length x.0)) 0) (lt-leb (suc (length x.0)) 0 (omega arith))))
     q
 no_line (suc k) (b ∷ s) t u us q e =
     let Q : Type 0 = (every plain t && leb (length t) (suc k)) ≡ false in
     let P : Option (List ℕ) → Type 0 = λ o. o ≡ None → Q in
-    cond_both (at_crlf (b ∷ s)) (Some (b ∷ s)) (cond (plain b) (line_end k s) None) P (λ _ n. absurd (none_some (sym n)))
+    cond_both (at_crlf (b ∷ s)) (Some (b ∷ s)) (cond (plain b) (line_end k s) None) P (λ _ n. absurd (none-some _ (sym n)))
     (λ h. let x = shifted b s t u us e h in
     cond_both (plain b) (line_end k s) None P
     (λ y n. rw x.1 (rw y (rw compare.suc-suc (no_line k s x.0 u us n x.2))))

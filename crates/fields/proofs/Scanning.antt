@@ -1,10 +1,12 @@
 -- One turn of each scanner.
-use Rattle.std.proofs.Common.{◌≡◌, ℕ, zero, suc, ◌-◌, ◌<◌, ◌≤◌, Bool, true, false, cond, List, [], ◌∷◌, length, get_or, Some, None, sym, refl, ap, ◌∙◌, arith}
-use Rattle.std.proofs.lemmas.Bool.{cond-true, cond-false, ne_eqb}
+use Rattle.std.proofs.Common.{◌≡◌, ℕ, zero, suc, ◌+◌, ◌<◌, ◌≤◌, Bool, true, false, cond, not, nat_lt, List, [], ◌∷◌, length, drop, get_or, Some, None, sym, refl, ap, ◌∙◌, subst, ⊎_elim, arith}
+use Rattle.std.specs.List.{position, position_or_len}
+use Rattle.std.proofs.lemmas.Bool.{cond-true, cond-false, cond_both, cases_Bool, ltb-true, ltb-false}
+use Rattle.std.proofs.lemmas.Option.{none-some, cond_some}
 use Rattle.fields.specs.Classes.{wsp, plain, behind}
-use Rattle.fields.specs.Scans.{at_crlf, crlf_here, line_end, past_colon, fold_start}
+use Rattle.fields.specs.Scans.{at_crlf, crlf_here, line_end, fold_start}
 use Rattle.fields.proofs.Patterns.{tail, one_ahead, three_ahead}
-use Rattle.fields.proofs.Parting.{plain_from, no_crlf}
+use Rattle.fields.proofs.Parting.{plain_cr, no_crlf}
 
 module _ (p : ℕ → Bool) where
   pub behind_more : (s : List ℕ) → 1 ≤ length s → p (get_or s 0 0) ≡ true → behind p s ≡ behind p (tail 1 s)
@@ -14,30 +16,66 @@ module _ (p : ℕ → Bool) where
   behind_none [] h = refl
   behind_none (a ∷ s) h = absurd (omega arith)
 
--- at a CR, either the CRLF is there or there is no line
-end_here : (k b : ℕ) (s : List ℕ) → b ≡ 13 → line_end k (b ∷ s) ≡ crlf_here (b ∷ s)
-end_here zero b s e = refl
-end_here (suc k) b s e = let no : plain b ≡ false = rw e refl in ap (λ o. cond (at_crlf (b ∷ s)) (Some (b ∷ s)) o) (cond-false (plain b) (line_end k s) None no)
+-- ---- where a line ends, by how many plain bytes stand in front
+line_here : (room b : ℕ) (s : List ℕ) → plain b ≡ false → line_end room (b ∷ s) ≡ crlf_here (b ∷ s)
+line_here zero b s e = refl
+line_here (suc k) b s e = ap (λ o. cond (at_crlf (b ∷ s)) (Some (b ∷ s)) o) (cond-false (plain b) (line_end k s) None e)
 
-pub line_here : (k : ℕ) (s : List ℕ) → 1 ≤ length s → get_or s 0 0 ≡ 13 → line_end k s ≡ crlf_here s
-line_here k s h e = ap (line_end k) (one_ahead s h) ∙ end_here k (get_or s 0 0) (tail 1 s) e ∙ ap crlf_here (sym (one_ahead s h))
+no_line_here : (b : ℕ) (s : List ℕ) → plain b ≡ true → crlf_here (b ∷ s) ≡ None
+no_line_here b s e = cond-false (at_crlf (b ∷ s)) (Some (b ∷ s)) None (no_crlf b s (plain_cr b e))
 
-line_on : (k b : ℕ) (s : List ℕ) → (b ≡ 13 → ⊥) → plain b ≡ true → line_end (suc k) (b ∷ s) ≡ line_end k s
-line_on k b s h e = cond-false (at_crlf (b ∷ s)) (Some (b ∷ s)) _ (no_crlf b s (ne_eqb b 13 h)) ∙ cond-true (plain b) (line_end k s) None e
+line_on : (k b : ℕ) (s : List ℕ) → plain b ≡ true → line_end (suc k) (b ∷ s) ≡ line_end k s
+line_on k b s e = cond-false (at_crlf (b ∷ s)) (Some (b ∷ s)) _ (no_crlf b s (plain_cr b e)) ∙ cond-true (plain b) (line_end k s) None e
 
-pub line_more : (k : ℕ) (s : List ℕ) → 1 ≤ length s → (get_or s 0 0 ≡ 13 → ⊥) → (get_or s 0 0 ≡ 10 → ⊥) → (get_or s 0 0 ≡ 0 → ⊥) → (k ≡ 0 → ⊥) → line_end k s ≡ line_end (k - 1) (tail 1 s)
-line_more zero s h cr lf nul z = absurd (z refl)
-line_more (suc k) s h cr lf nul z =
-    let same : suc k - 1 ≡ k = omega arith in
-    let fine = plain_from (get_or s 0 0) nul lf cr in
-    ap (line_end (suc k)) (one_ahead s h) ∙ line_on k (get_or s 0 0) (tail 1 s) cr fine ∙ ap (λ j. line_end j (tail 1 s)) (sym same)
+abbrev unplain : ℕ → Bool
+unplain b = not (plain b)
 
-pub line_none : (k : ℕ) (s : List ℕ) → length s < 1 → line_end k s ≡ None
-line_none k [] h = refl
-line_none k (a ∷ s) h = absurd (omega arith)
+front_on : (b : ℕ) (s : List ℕ) → plain b ≡ true → position_or_len unplain (b ∷ s) ≡ suc (position_or_len unplain s)
+front_on b s e = cond-true (not (unplain b)) (1 + position_or_len unplain s) 0 (ap (λ x. not (not x)) e) ∙ omega arith
 
-pub colon_here : (s : List ℕ) → 1 ≤ length s → get_or s 0 0 ≡ 58 → past_colon s ≡ Some (tail 1 s)
-colon_here s h e = ap past_colon (one_ahead s h) ∙ rw e refl
+front_here : (b : ℕ) (s : List ℕ) → plain b ≡ false → position_or_len unplain (b ∷ s) ≡ 0
+front_here b s e = cond-false (not (unplain b)) (1 + position_or_len unplain s) 0 (ap (λ x. not (not x)) e)
+
+-- n plain bytes stand in front of the first that is not
+record LineBy (room : ℕ) (s : List ℕ) (n : ℕ) : Type 0 where
+  pub none : length s ≤ n → line_end room s ≡ None
+  pub far : room < n → line_end room s ≡ None
+  pub near : n < length s → n ≤ room → line_end room s ≡ crlf_here (drop n s)
+
+line_more : (room b : ℕ) (s : List ℕ) (n : ℕ) → plain b ≡ true → ((k : ℕ) → LineBy k s n) → LineBy room (b ∷ s) (suc n)
+line_more zero b s n e h = let no = no_line_here b s e in record { none = λ _. no; far = λ _. no; near = λ _ g. absurd (omega arith) }
+line_more (suc k) b s n e h =
+    let on = line_on k b s e in
+    let l = h k in
+    record { none = λ g. on ∙ l.none (omega arith); far = λ g. on ∙ l.far (omega arith); near = λ g r. on ∙ l.near (omega arith) (omega arith) }
+
+line_by : (room : ℕ) (s : List ℕ) → LineBy room s (position_or_len unplain s)
+line_by room [] = record { none = λ _. refl; far = λ _. refl; near = λ g _. absurd (omega arith) }
+line_by room (b ∷ s) = ⊎_elim
+    (λ e. subst (LineBy room (b ∷ s)) (sym (front_on b s e)) (line_more room b s (position_or_len unplain s) e (λ k. line_by k s)))
+    (λ e. subst (LineBy room (b ∷ s)) (sym (front_here b s e)) (record { none = λ g. absurd (omega arith); far = λ g. absurd (omega arith); near = λ _ _. line_here room b s e }))
+    (cases_Bool (plain b))
+
+-- the same, by the place of that first byte
+pub line_nowhere : (room : ℕ) (s : List ℕ) → position (λ b. not (plain b)) s ≡ None → line_end room s ≡ None
+line_nowhere room s e =
+    let n = position_or_len unplain s in
+    cond_both (nat_lt n (length s)) (Some n) None (λ o. o ≡ None → line_end room s ≡ None)
+    (λ _ q. absurd (none-some n (sym q)))
+    (λ h _. (line_by room s).none (omega (arith, ltb-false n (length s) h)))
+    e
+
+pub line_far : (room : ℕ) (s : List ℕ) (k : ℕ) → position (λ b. not (plain b)) s ≡ Some k → room < k → line_end room s ≡ None
+line_far room s k e r =
+    let n = position_or_len unplain s in
+    let at = cond_some (nat_lt n (length s)) n k e in
+    (line_by room s).far (omega (arith, at.1))
+
+pub line_near : (room : ℕ) (s : List ℕ) (k : ℕ) → position (λ b. not (plain b)) s ≡ Some k → k ≤ room → line_end room s ≡ crlf_here (drop k s)
+line_near room s k e r =
+    let n = position_or_len unplain s in
+    let at = cond_some (nat_lt n (length s)) n k e in
+    (line_by room s).near (omega (arith, ltb-true n (length s) at.0)) (omega (arith, at.1)) ∙ ap (λ i. crlf_here (drop i s)) at.1
 
 pub fold_here : (s : List ℕ) → 3 ≤ length s → get_or s 0 0 ≡ 13 → get_or s 1 0 ≡ 10 → wsp (get_or s 2 0) ≡ true → fold_start s ≡ Some (tail 3 s)
 fold_here s h e f g = ap fold_start (three_ahead s h) ∙ rw (e, f) (rw (g, fold_start) refl)

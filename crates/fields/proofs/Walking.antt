@@ -1,5 +1,5 @@
 -- The turns of the walk.
-use Rattle.std.proofs.Common.{◌≡◌, ℕ, suc, ◌+◌, ◌<◌, ◌≤◌, true, false, ltb, List, length, Some, None, Ok, Err, Result, sym, refl, ap, ◌∙◌, add-one, arith}
+use Rattle.std.proofs.Common.{◌≡◌, ℕ, suc, ◌+◌, ◌<◌, ◌≤◌, true, false, ltb, List, length, Some, None, Ok, Err, Result, sym, ap, ◌∙◌, add-one, arith}
 use Rattle.std.proofs.lemmas.Bool.{cond-true, cond-false, lt-ltb, le-ltb}
 use Rattle.fields.specs.declared.field.Form.{Form}
 use Rattle.fields.specs.declared.refusal.Objection.{Objection}
@@ -39,9 +39,6 @@ pub record Comes {S : Type 0} (step : S → PlacedField → Result S Objection) 
   pub few : n ≤ most_fields + 1
 
 module _ {S : Type 0} (step : S → PlacedField → Result S Objection) (s : S) (form : Form) (input : List ℕ) where
-  pub comes_first : Comes step s form input 1 s 0 input
-  comes_first = record { same = refl; place_is = omega arith; few = omega arith }
-
   pub too_long : longest_input < length input → Err TooLong ≡ walked step s form input
   unfolding walked
   too_long h = sym (cond-true (ltb longest_input (length input)) (Err TooLong) (told_cut step 1 s (fields_of form input)) (lt-ltb longest_input (length input) h))

@@ -1,5 +1,5 @@
 -- Classes of bytes, and the run of one class that a list begins with.
-use Rattle.std.specs.Prelude.{ℕ, Bool, true, false, cond, not, ◌&&◌, ◌||◌, List, [], ◌∷◌, ◌==◌, nat_le}
+use Rattle.std.specs.Prelude.{ℕ, Bool, true, false, cond, not, ◌&&◌, ◌||◌, List, [], ◌∷◌, Some, None, Option, ◌==◌, nat_eq, nat_le}
 
 abbrev pub CR : ℕ
 CR = 13
@@ -40,3 +40,12 @@ front p (b ∷ s) = let more = b ∷ front p s in cond (p b) more []
 abbrev pub behind : (ℕ → Bool) → List ℕ → List ℕ
 behind p [] = []
 behind p (b ∷ s) = let more = behind p s in cond (p b) more (b ∷ s)
+
+-- what stands behind one byte of a class
+abbrev pub behind_one : (ℕ → Bool) → List ℕ → Option (List ℕ)
+behind_one p [] = None
+behind_one p (b ∷ s) = cond (p b) (Some s) None
+
+-- what stands behind a byte n
+abbrev pub behind_byte : ℕ → List ℕ → Option (List ℕ)
+behind_byte n = behind_one (λ b. nat_eq b n)

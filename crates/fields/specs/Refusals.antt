@@ -1,5 +1,5 @@
 -- Each refusal's number, layer and place.
-use Rattle.std.specs.Prelude.{ℕ}
+use Rattle.std.specs.Prelude.{ℕ, List, ◌++◌, codes, decimal}
 use Rattle.fields.specs.declared.refusal.Place.{Place}
 use Rattle.fields.specs.declared.refusal.Objection.{Objection}
 use Rattle.fields.specs.declared.refusal.Objection.TheVariants.{Repeated, Malformed, NotAscii}
@@ -24,3 +24,19 @@ numbered TooLong = numbers_at 1 1 nowhere
 numbered (BadLine p) = numbers_at 2 1 p
 numbered (TooManyFields p) = numbers_at 3 1 p
 numbered (Objected why p) = numbers_at (objection_number why) 2 p
+
+-- the cause in words
+abbrev pub objection_words : Objection → List ℕ
+objection_words Repeated = codes "a field that may stand once stands again"
+objection_words Malformed = codes "a body outside its grammar"
+objection_words NotAscii = codes "a byte above 127 in a report"
+
+abbrev pub because : Refusal → List ℕ
+because TooLong = codes "more than 32,768 bytes"
+because (BadLine _) = codes "a line at fault"
+because (TooManyFields _) = codes "more than 256 fields"
+because (Objected why _) = objection_words why
+
+-- the numbers as they are printed
+abbrev pub numbers_text : Numbers → List ℕ
+numbers_text n = decimal n.number ++ (codes " layer " ++ (decimal n.layer ++ (codes " field " ++ (decimal n.field ++ (codes " byte " ++ decimal n.byte)))))

@@ -1,11 +1,11 @@
 -- What the scanners of lines answer.
-use Rattle.std.specs.Prelude.{◌≡◌, ℕ, zero, suc, ◌+◌, ◌-◌, ◌<◌, Bool, true, false, cond, ◌&&◌, List, [], ◌∷◌, length, Some, None, Option, ◌==◌}
+use Rattle.std.specs.Prelude.{◌≡◌, ℕ, zero, suc, ◌+◌, ◌-◌, ◌<◌, Bool, true, false, cond, ◌&&◌, List, [], ◌∷◌, length, Some, None, Ok, Err, Option, Result, ◌==◌}
 use Rattle.fields.specs.declared.part.Part.{Part}
 use Rattle.fields.specs.declared.field.Form.{Form}
-use Rattle.fields.specs.declared.field.Next.{Next}
-use Rattle.fields.specs.declared.field.Next.TheVariants.{End, Fault, First}
+use Rattle.fields.specs.declared.field.Front.{Front}
+use Rattle.fields.specs.declared.field.Fault.{Fault}
 use Rattle.fields.specs.Limits.{longest_line}
-use Rattle.fields.specs.Classes.{CR, LF, colon, wsp, plain, behind}
+use Rattle.fields.specs.Classes.{CR, LF, colon, wsp, plain, behind, behind_byte}
 use Rattle.fields.specs.Lines.{texts}
 use Rattle.fields.specs.Fields.{Cut, whole, fault, stop, closing, cut}
 use Rattle.fields.specs.Seen.{placed_field}
@@ -26,8 +26,7 @@ line_end zero (b ∷ s) = crlf_here (b ∷ s)
 line_end (suc room) (b ∷ s) = let more = cond (plain b) (line_end room s) None in cond (at_crlf (b ∷ s)) (Some (b ∷ s)) more
 
 abbrev pub past_colon : List ℕ → Option (List ℕ)
-past_colon [] = None
-past_colon (b ∷ s) = cond (b == colon) (Some s) None
+past_colon = behind_byte colon
 
 -- what stands behind a CRLF and one byte of white space
 abbrev pub fold_start : List ℕ → Option (List ℕ)
@@ -46,13 +45,13 @@ no_field [] = true
 no_field (b ∷ s) = at_crlf (b ∷ s)
 
 -- the cut that begins with what was found first, and goes on behind it
-abbrev pub found : Form → Next → Cut
-found form End = stop whole
-found form (Fault byte) = stop (fault byte)
-found form (First f rest) = closing (Some (placed_field f)) (cut form None rest.at (texts rest.text.now))
+abbrev pub found : Form → Result (Option Front) Fault → Cut
+found form (Ok None) = stop whole
+found form (Ok (Some f)) = closing (Some (placed_field f.field)) (cut form None f.rest.at (texts f.rest.text.now))
+found form (Err line) = stop (fault line.byte)
 
 -- what is left is further on in the same bytes
-abbrev pub Ahead : Part → Next → Type 0
-Ahead from End = Unit {0}
-Ahead from (Fault byte) = Unit {0}
-Ahead from (First f rest) = (length rest.text.now < length from.text.now) × (rest.at + length rest.text.now ≡ from.at + length from.text.now)
+abbrev pub Ahead : Part → Result (Option Front) Fault → Type 0
+Ahead from (Ok None) = Unit {0}
+Ahead from (Ok (Some f)) = (length f.rest.text.now < length from.text.now) × (f.rest.at + length f.rest.text.now ≡ from.at + length from.text.now)
+Ahead from (Err line) = Unit {0}

@@ -1,6 +1,7 @@
 // Classes of bytes, and the run of one class that some bytes begin with.
 ghost use Rattle.std.specs.Prelude.{◌≡◌, ℕ, Bool};
-ghost use Rattle.fields.specs.Classes.{wsp, ftext, behind};
+ghost use Rattle.std.specs.Option.{option_map};
+ghost use Rattle.fields.specs.Classes.{wsp, ftext, behind, behind_byte};
 
 // A class of bytes.
 pub trait Class {
@@ -43,4 +44,14 @@ pub fn skip<'a, C: Class>(s: &'a [u8]) -> &'a [u8]
         rest = tail;
     }
     rest
+}
+
+// What stands behind a byte `b`. As a class of one byte, it would be named in a type at each call.
+pub fn skip_byte<'a>(s: &'a [u8], b: u8) -> Option<&'a [u8]>
+    ensures { option_map (λ x. x.now) result ≡ behind_byte b s.now }
+{
+    match s {
+        [first, tail @ ..] if *first == b => Some(tail),
+        _ => None,
+    }
 }

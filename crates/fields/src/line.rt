@@ -1,33 +1,30 @@
 // Where lines end.
-ghost use Rattle.std.specs.Prelude.{◌≡◌};
+ghost use Rattle.std.specs.Prelude.{◌≡◌, not, position};
 ghost use Rattle.std.specs.Option.{option_map};
-ghost use Rattle.fields.specs.Scans.{crlf_here, past_colon, line_end, fold_start, fold_end};
+ghost use Rattle.fields.specs.Classes.{plain};
+ghost use Rattle.fields.specs.Scans.{crlf_here, line_end, fold_start, fold_end};
 
 use crate::bytes::{Class, Wsp, skip};
 
 // The most bytes that a line may have before its CRLF.
 pub(crate) const LONGEST_LINE: usize = 998;
 
+// How many bytes stand before the first NUL, CR or LF.
+fn plain_front(s: &[u8]) -> Option<usize>
+    ensures { result ≡ position (λ b. not (plain b)) s.now }
+{
+    s.iter().position(|b| matches!(*b, 0 | b'\r' | b'\n'))
+}
+
 // The bytes from the CRLF on that ends the line, where at most `room` stand before it, none of them NUL, CR or LF.
 pub(crate) fn line_end<'a>(s: &'a [u8], room: usize) -> Option<&'a [u8]>
     ensures { option_map (λ x. x.now) result ≡ line_end room s.now }
 {
-    let mut rest = s;
-    let mut left = room;
-    while let [b, tail @ ..] = rest {
-        match *b {
-            b'\r' => return crlf(rest),
-            b'\n' => return None,
-            0 => return None,
-            _ => {}
-        }
-        if left == 0 {
-            return None;
-        }
-        left -= 1;
-        rest = tail;
+    let front = plain_front(s)?;
+    if front > room {
+        return None;
     }
-    None
+    crlf(&s[front..])
 }
 
 // The bytes themselves, where they begin with CRLF.
@@ -36,16 +33,6 @@ pub(crate) fn crlf<'a>(s: &'a [u8]) -> Option<&'a [u8]>
 {
     match s {
         [b'\r', b'\n', ..] => Some(s),
-        _ => None,
-    }
-}
-
-// What stands behind a colon.
-pub(crate) fn past_colon<'a>(s: &'a [u8]) -> Option<&'a [u8]>
-    ensures { option_map (λ x. x.now) result ≡ past_colon s.now }
-{
-    match s {
-        [b':', rest @ ..] => Some(rest),
         _ => None,
     }
 }

@@ -11,6 +11,7 @@ pub struct Part<'a> {
 
 impl<'a> Part<'a> {
     // Whether these bytes are the name `known`, where the case of ASCII letters does not count.
+    // One call of the library's comparison, like `is_alike` of `abnf`: each says it in the words of its own definition.
     pub fn is_name(&self, known: &[u8]) -> bool
         ensures { Decides result (SameName self.now.text.now known.now) }
     {

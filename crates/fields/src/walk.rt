@@ -3,11 +3,12 @@ ghost use Rattle.std.specs.Prelude.{◌≡◌, true, Result};
 ghost use Rattle.fields.specs.declared.refusal.Objection.{Objection};
 ghost use Rattle.fields.specs.Fields.{PlacedField, fields_of};
 ghost use Rattle.fields.specs.Seen.{placed_field};
-ghost use Rattle.fields.specs.Walks.{became, meaning, walked};
+ghost use Rattle.fields.specs.declared.refusal.Refusal.TheVariants.{BadLine};
+ghost use Rattle.fields.specs.Walks.{became, meaning, place, walked};
 ghost use Rattle.fields.specs.Built.{WalkExactly};
 ghost use Rattle.fields.specs.Clean.{all_clean};
 
-use crate::field::{Form, Next, read_next};
+use crate::field::{Fault, Form, read_next};
 use crate::part::{Field, Part};
 use crate::refusal::{Objection, Place, Refusal};
 
@@ -45,25 +46,33 @@ pub fn walk<'a, C: Collector<'a> + Drop>(
         return Err(Refusal::TooLong);
     }
     let mut rest = Part { at: 0, text: input };
+    // A `for` over the numbers of fields would leave an answer behind it that is never given.
     let mut field = 1;
-    loop {
-        match read_next(form, rest) {
-            Next::End => return Ok(collector),
-            Next::Fault(byte) => return Err(Refusal::BadLine(Place { field, byte })),
-            Next::First(told, behind) => {
-                let place = Place {
-                    field,
-                    byte: told.name.at,
-                };
-                if field > MOST_FIELDS {
-                    return Err(Refusal::TooManyFields(place));
-                }
-                if let Err(why) = collector.take(told) {
-                    return Err(Refusal::Objected(why, place));
-                }
-                rest = behind;
-                field += 1;
-            }
+    while let Some(front) = read_next(form, rest).map_err(|fault| fault.in_field(field))? {
+        let place = Place {
+            field,
+            byte: front.field.name.at,
+        };
+        if field > MOST_FIELDS {
+            return Err(Refusal::TooManyFields(place));
         }
+        collector
+            .take(front.field)
+            .map_err(|why| Refusal::Objected(why, place))?;
+        rest = front.rest;
+        field += 1;
+    }
+    Ok(collector)
+}
+
+impl Fault {
+    // The refusal of this line, which belongs to the field that stands next.
+    fn in_field(self, field: usize) -> Refusal
+        ensures { result ≡ BadLine (place field self.byte) }
+    {
+        Refusal::BadLine(Place {
+            field,
+            byte: self.byte,
+        })
     }
 }

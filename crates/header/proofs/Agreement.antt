@@ -1,6 +1,6 @@
 -- When a header agrees.
 use Rattle.std.proofs.Common.{◌≡◌, true, false, ◌&&◌, eqb, List, [], ◌∷◌, length, Some, None, Option, refl, ap, ◌∙◌, inl, ⊎_elim, arith}
-use Rattle.std.proofs.lemmas.Bool.{and_parts, and_from, both_ways, eqb-true, eq-eqb, or_cases, or_left}
+use Rattle.std.proofs.lemmas.Bool.{and_parts, and_from, eqb-true, eq-eqb, or_cases, or_left}
 use Rattle.address.specs.Rfc5322.{Addr}
 use Rattle.equality.specs.Equality.{same_address}
 use Rattle.equality.specs.Distinct.{among, distinct, In, Classes}
@@ -13,7 +13,7 @@ use Rattle.header.specs.Rules.{Agreeing, AgreesMeans}
 
 -- ---- one class, and so all are the same
 only : (a r : Addr) → among a (r ∷ []) ≡ true → same_address a r ≡ true
-only a r h = ⊎_elim (λ s. s) (λ m. absurd (both_ways false refl m)) (or_cases (same_address a r) false h)
+only a r h = ⊎_elim (λ s. s) (λ m. cc) (or_cases (same_address a r) false h)
 
 one_class : (xs : List Addr) (a b : Addr) → distinct xs ≡ 1 → In a xs → In b xs → same_address a b ≡ true
 one_class xs a b e i j = let k = classes xs in go k.chosen (k.number ∙ e) k.stand_for_all
@@ -37,11 +37,11 @@ one_distinct a p others all =
 
 -- ---- by what was collected
 agrees_out : (c : Collected) (o : Option (List Addr)) (t : Trace) → c.requests ≡ o → c.trace ≡ t → eqb (distinct_of o) 1 ≡ true → returns_to o t ≡ true → Agreeing c
-agrees_out c None t q w d r = absurd (both_ways false refl r)
-agrees_out c (Some []) t q w d r = absurd (both_ways false refl r)
-agrees_out c (Some (a ∷ others)) never q w d r = absurd (both_ways false refl r)
-agrees_out c (Some (a ∷ others)) (once None) q w d r = absurd (both_ways false refl r)
-agrees_out c (Some (a ∷ others)) again q w d r = absurd (both_ways false refl r)
+agrees_out c None t q w d r = cc
+agrees_out c (Some []) t q w d r = cc
+agrees_out c (Some (a ∷ others)) never q w d r = cc
+agrees_out c (Some (a ∷ others)) (once None) q w d r = cc
+agrees_out c (Some (a ∷ others)) again q w d r = cc
 agrees_out c (Some (a ∷ others)) (once (Some p)) q w d r = record {
   first = a;
   others = others;

@@ -1,5 +1,5 @@
 -- The collector takes what the rules derive.
-use Rattle.std.proofs.Common.{◌≡◌, ℕ, suc, true, List, [], ◌∷◌, Some, None, Ok, Err, Option, Result, sym, refl, ap, ◌∙◌, subst, arith}
+use Rattle.std.proofs.Common.{◌≡◌, ℕ, suc, true, List, [], ◌∷◌, Some, None, Ok, Err, Option, Result, sym, refl, ap, ◌∙◌, subst}
 use Rattle.std.proofs.lemmas.Bool.{cond_both, cond-false, and_parts}
 use Rattle.fields.specs.declared.field.Form.TheVariants.{Header}
 use Rattle.fields.specs.declared.refusal.Objection.{Objection}
@@ -33,21 +33,15 @@ use Rattle.header.specs.Collected.{Collected, nothing_yet, filled, put, with_pat
 use Rattle.header.specs.Facts.{Said, said, header_of}
 use Rattle.header.specs.Rules.{Makes, Tells, AllTell, told_all, one_told, SaysExactly}
 
-err_ok : {A E : Type 0} {x : A} {e : E} → ◌≡◌ {A = Result A E} (Err e) (Ok x) → ⊥
-err_ok e = let z : ◌≡◌ {A = ℕ} 0 1 = cc in omega arith
-
-ok_same : {A E : Type 0} {x y : A} → ◌≡◌ {A = Result A E} (Ok x) (Ok y) → x ≡ y
-ok_same e = cc
-
 -- ---- one body
 put_out : {X Y : Type 0} (R : X → Rule) (f : X → Y) (s : List ℕ) (o : Option Y) (to : Y → Collected) (d : Collected) → Exactly R f s o → put o to ≡ Ok d → (x : X) × R x s × (d ≡ to (f x))
-put_out R f s None to d x e = absurd (err_ok e)
+put_out R f s None to d x e = cc
 put_out R f s (Some y) to d x e =
     let t = x.derived y refl in
-    (t.0, t.1, sym (ok_same e) ∙ ap to t.2)
+    (t.0, t.1, cc)
 
 put_in : {X Y : Type 0} (R : X → Rule) (f : X → Y) (s : List ℕ) (o : Option Y) (to : Y → Collected) (d : Collected) → Exactly R f s o → ((x : X) × R x s × (d ≡ to (f x))) → put o to ≡ Ok d
-put_in R f s o to d x t = ap (λ r. put r to) (x.answered t.0 t.1) ∙ ap Ok (sym t.2)
+put_in R f s o to d x t = rw (x.answered t.0 t.1, t.2) refl
 
 makes_out : (k : Known) (c d : Collected) (b : Placed) → clean b.bytes ≡ true → entered k c b ≡ Ok d → Makes k c b d
 makes_out ReturnPath c d b w e = put_out path itself b.bytes _ (with_path c) d (path_exact b.bytes _ refl) e
@@ -56,7 +50,7 @@ makes_out NotificationOptions c d b w e = put_out options_body some_required b.b
 makes_out OriginalRecipient c d b w e = put_out typed_text (moved_typed b.at) b.bytes _ (with_recipient c) d (typed_exact b.at b.bytes _ refl w) e
 makes_out MessageId c d b w e = put_out msg_id (moved b.at) b.bytes _ (with_identifier c) d (msg_id_exact b.at b.bytes _ refl) e
 makes_out ContentType c d b w e = put_out content notifies b.bytes _ (with_notification c) d (content_exact b.bytes notifies _ refl) e
-makes_out Other c d b w e = sym (ok_same e)
+makes_out Other c d b w e = cc
 
 makes_in : (k : Known) (c d : Collected) (b : Placed) → clean b.bytes ≡ true → Makes k c b d → entered k c b ≡ Ok d
 makes_in ReturnPath c d b w t = put_in path itself b.bytes _ (with_path c) d (path_exact b.bytes _ refl) t
@@ -65,7 +59,7 @@ makes_in NotificationOptions c d b w t = put_in options_body some_required b.byt
 makes_in OriginalRecipient c d b w t = put_in typed_text (moved_typed b.at) b.bytes _ (with_recipient c) d (typed_exact b.at b.bytes _ refl w) t
 makes_in MessageId c d b w t = put_in msg_id (moved b.at) b.bytes _ (with_identifier c) d (msg_id_exact b.at b.bytes _ refl) t
 makes_in ContentType c d b w t = put_in content notifies b.bytes _ (with_notification c) d (content_exact b.bytes notifies _ refl) t
-makes_in Other c d b w t = ap Ok (sym t)
+makes_in Other c d b w t = cc
 
 -- ---- one field
 tells_out : (c d : Collected) (f : PlacedField) → clean f.body.bytes ≡ true → collects c f ≡ Ok d → Tells c f d
@@ -73,7 +67,7 @@ unfolding collects
 tells_out c d f w e =
     let k = known_as f.name.bytes in
     cond_both (filled c k) (Err Repeated) (entered k c f.body) (λ r. r ≡ Ok d → Tells c f d)
-    (λ _ q. absurd (err_ok q))
+    (λ _ q. cc)
     (λ h q. (h, makes_out k c d f.body w q))
     e
 
@@ -85,14 +79,14 @@ tells_in c d f w t =
 
 -- ---- all fields
 all_out : (n : ℕ) (c d : Collected) (fs : List PlacedField) → all_clean fs ≡ true → all_told collects n c fs ≡ Ok d → AllTell c fs d
-all_out n c d [] w e = subst (λ x. AllTell c [] x) (ok_same e) told_all
+all_out n c d [] w e = subst (λ x. AllTell c [] x) (cc) told_all
 all_out n c d (f ∷ fs) w e =
     let p = and_parts (clean f.body.bytes) (all_clean fs) w in
     go (λ x q. tells_out c x f p.0 q) (λ x q. all_out (suc n) x d fs p.1 q) (collects c f) refl e
   where
     go : ((x : Collected) → collects c f ≡ Ok x → Tells c f x) → ((x : Collected) → all_told collects (suc n) x fs ≡ Ok d → AllTell x fs d) → (o : Result Collected Objection) → collects c f ≡ o → taken o (place n f.name.at) (λ t. all_told collects (suc n) t fs) ≡ Ok d → AllTell c (f ∷ fs) d
     go one rest (Ok x) q r = one_told (one x q) (rest x r)
-    go one rest (Err why) q r = absurd (err_ok r)
+    go one rest (Err why) q r = cc
 
 all_in : {c d : Collected} {fs : List PlacedField} (n : ℕ) → all_clean fs ≡ true → AllTell c fs d → all_told collects n c fs ≡ Ok d
 all_in n w told_all = refl
@@ -102,8 +96,8 @@ all_in {c = c} n w (one_told {d = d} {f = f} {fs = fs} t r) =
 
 -- ---- the header
 meaning_ok : {A B E : Type 0} (f : A → B) (r : Result A E) (y : B) → meaning f r ≡ Ok y → (x : A) × (r ≡ Ok x) × (y ≡ f x)
-meaning_ok f (Ok x) y e = (x, refl, sym (ok_same e))
-meaning_ok f (Err why) y e = absurd (err_ok e)
+meaning_ok f (Ok x) y e = (x, refl, cc)
+meaning_ok f (Err why) y e = cc
 
 pub says_exactly : (s : List ℕ) (r : Result Said Refusal) → r ≡ header_of s → SaysExactly s r
 unfolding header_of
@@ -117,12 +111,3 @@ says_exactly s r e =
           (a.0, m.0, a.1, all_out 1 nothing_yet m.0 a.0 (cleaned a.0 a.1) a.2, m.2);
       told = λ fs c i t. e ∙ ap (meaning said) (w.tells fs i ∙ all_in 1 (cleaned fs i) t);
     }
-
--- ---- as the code tells
-pub said_ok : (start c : Collected) (s : List ℕ) (x : Said) → start ≡ nothing_yet → Ok c ≡ walked collects start Header s → x ≡ said c → Ok x ≡ header_of s
-unfolding header_of
-said_ok start c s x n e q = ap Ok q ∙ ap (meaning said) e ∙ ap (λ b. meaning said (walked collects b Header s)) n
-
-pub said_no : (start : Collected) (s : List ℕ) (why : Refusal) → start ≡ nothing_yet → Err why ≡ walked collects start Header s → Err why ≡ header_of s
-unfolding header_of
-said_no start s why n e = ap (meaning said) e ∙ ap (λ b. meaning said (walked collects b Header s)) n

@@ -1,9 +1,10 @@
 -- What is collected of a header's fields, one after another.
-use Rattle.std.specs.Prelude.{Bool, true, false, cond, List, Some, None, Ok, Err, Option, Result}
+use Rattle.std.specs.Prelude.{◌≡◌, Bool, true, false, cond, List, Some, None, Ok, Err, Option, Result}
 use Rattle.std.specs.Option.{option_map}
 use Rattle.fields.specs.declared.refusal.Objection.{Objection}
 use Rattle.fields.specs.declared.refusal.Objection.TheVariants.{Repeated, Malformed}
 use Rattle.fields.specs.Fields.{Placed, PlacedField}
+use Rattle.fields.specs.Walks.{became}
 use Rattle.lexical.specs.Spans.{moved}
 use Rattle.address.specs.Rfc5322.{Addr}
 use Rattle.address.specs.Reads.{path_of, msg_id_of}
@@ -62,6 +63,12 @@ filled c Other = false
 abbrev pub in_grammar : {A : Type 0} → Option A → Result A Objection
 in_grammar None = Err Malformed
 in_grammar (Some x) = Ok x
+
+-- what comes of a body that is read for a slot, whose field may stand once: a filled slot stays as it is and nothing is
+-- read, an empty one then holds what was read
+abbrev pub EntersOnce : {A : Type 0} → Option A → (Option A → Type 0) → Result Unit Objection → Option A → Type 0
+EntersOnce (Some x) Reads r slot = (r ≡ Err Repeated) × (slot ≡ Some x)
+EntersOnce None Reads r slot = (r ≡ became (in_grammar slot) tt) × Reads slot
 
 -- what was read of a body, put to the rest, or the objection that it is outside its grammar
 abbrev pub put : {A : Type 0} → Option A → (A → Collected) → Result Collected Objection

@@ -1,9 +1,7 @@
 // What is collected of a header's fields on the walk over them.
 ghost use Rattle.std.specs.Prelude.{◌≡◌};
-ghost use Rattle.fields.specs.Seen.{placed};
-ghost use Rattle.fields.specs.Walks.{became};
 ghost use Rattle.address.specs.Seen.{path_told};
-ghost use Rattle.header.specs.Collected.{Collected, traced, nothing_yet, filled, in_grammar, entered, collects};
+ghost use Rattle.header.specs.Collected.{Collected, traced, nothing_yet, collects, EntersOnce};
 ghost use Rattle.header.specs.Seen.{trace_of, collected};
 
 use crate::known::Known;
@@ -63,59 +61,23 @@ impl<'a> Collecting<'a> {
             notification: None,
         }
     }
-
-    // Whether a field of this name is there that may stand once only.
-    fn has(&self, known: Known) -> bool
-        ensures { result ≡ filled (collected self.now) known }
-    {
-        match known {
-            Known::NotificationTo => matches!(self.requests, Some(_)),
-            Known::NotificationOptions => matches!(self.required, Some(_)),
-            Known::OriginalRecipient => matches!(self.recipient, Some(_)),
-            Known::MessageId => matches!(self.message_id, Some(_)),
-            Known::ContentType => matches!(self.notification, Some(_)),
-            _ => false,
-        }
-    }
-
-    // Enters what the body of a field of this name says, or objects that it is outside its grammar.
-    fn enter(&mut self, known: Known, body: Part<'a>) -> Result<(), Objection>
-        ensures { became result (collected self.new) ≡ entered known (collected self.old) (placed body.entry) }
-    {
-        match known {
-            Known::ReturnPath => {
-                let path = in_grammar(read_path(body.text))?;
-                self.returned = self.returned.and(path);
-            }
-            Known::NotificationTo => {
-                self.requests = Some(in_grammar(read_mailbox_list(body.text))?);
-            }
-            Known::NotificationOptions => {
-                self.required = Some(in_grammar(read_options(body.text))?);
-            }
-            Known::OriginalRecipient => {
-                self.recipient = Some(in_grammar(read_typed_text(body))?);
-            }
-            Known::MessageId => {
-                self.message_id = Some(in_grammar(read_msg_id(body))?);
-            }
-            Known::ContentType => {
-                self.notification = Some(in_grammar(read_content_type(body.text))?);
-            }
-            Known::Other => {}
-        }
-        Ok(())
-    }
 }
 
-// What was read, or the objection that it is outside its grammar.
-fn in_grammar<T>(read: Option<T>) -> Result<T, Objection>
-    ensures { result ≡ in_grammar read }
+// Enters what is read of the body, or objects that it is outside its grammar. Where the slot is filled, the field stands
+// a second time, and nothing is read.
+fn once<'a, T: Drop, F: FnOnce(Part<'a>) -> Option<T>>(
+    slot: &mut Option<T>,
+    body: Part<'a>,
+    read: F,
+) -> Result<(), Objection>
+    requires { F.pre read body }
+    ensures { EntersOnce slot.old (F.post read body.entry) result slot.new }
 {
-    match read {
-        Some(value) => Ok(value),
-        None => Err(Objection::Malformed),
+    if slot.is_some() {
+        return Err(Objection::Repeated);
     }
+    *slot = Some(read(body).ok_or(Objection::Malformed)?);
+    Ok(())
 }
 
 impl<'a> Collector<'a> for Collecting<'a> {
@@ -125,11 +87,21 @@ impl<'a> Collector<'a> for Collecting<'a> {
 
     ghost step = { collects };
 
+    #[tactic(auto, unfolding(crate::specs::Collected::collects))]
     fn take(&mut self, field: Field<'a>) -> Result<(), Objection> {
-        let known = Known::named(field.name.text);
-        if self.has(known) {
-            return Err(Objection::Repeated);
+        let Field { name, body } = field;
+        match Known::from(name.text) {
+            Known::ReturnPath => {
+                let path = read_path(body.text).ok_or(Objection::Malformed)?;
+                self.returned = self.returned.and(path);
+                Ok(())
+            }
+            Known::NotificationTo => once(&mut self.requests, body, |b| read_mailbox_list(b.text)),
+            Known::NotificationOptions => once(&mut self.required, body, |b| read_options(b.text)),
+            Known::OriginalRecipient => once(&mut self.recipient, body, read_typed_text),
+            Known::MessageId => once(&mut self.message_id, body, read_msg_id),
+            Known::ContentType => once(&mut self.notification, body, |b| read_content_type(b.text)),
+            Known::Other => Ok(()),
         }
-        self.enter(known, field.body)
     }
 }

@@ -37,27 +37,21 @@ pub struct Facts<'a> {
 fn returns_to(requests: Option<Mailboxes>, returned: Returned) -> bool
     ensures { result ≡ returns_to (option_map listing requests.entry) (trace_of returned.entry) }
 {
-    let Some(list) = requests else {
-        return false;
-    };
-    match (list.first(), returned) {
-        (Some(first), Returned::Once(Path::To(path))) => is_same(first.address, path),
+    match (requests.and_then(|mut list| list.next()), returned) {
+        (Some(first), Returned::Once(Path { to: Some(path) })) => is_same(first, path),
         _ => false,
     }
 }
 
-impl<'a> Facts<'a> {
-    fn of(c: Collecting<'a>) -> Facts<'a>
-        ensures { facts_said result ≡ said (collected c.entry) }
-    {
-        let distinct = match c.requests {
-            Some(list) => distinct(list),
-            None => 0,
-        };
+impl<'a> From<Collecting<'a>> for Facts<'a> {
+    ghost from_gives = { λ c facts. facts_said facts ≡ said (collected c) };
+
+    fn from(c: Collecting<'a>) -> Facts<'a> {
+        let distinct = c.requests.map_or(0, distinct);
         Facts {
-            asks: matches!(c.requests, Some(_)),
-            notification: matches!(c.notification, Some(true)),
-            required: matches!(c.required, Some(true)),
+            asks: c.requests.is_some(),
+            notification: c.notification.unwrap_or(false),
+            required: c.required.unwrap_or(false),
             distinct,
             agrees: distinct == 1 && returns_to(c.requests, c.returned),
             original_recipient: c.recipient,
@@ -72,8 +66,7 @@ pub fn read_header<'a>(input: &'a [u8]) -> Result<Facts<'a>, Refusal>
     ensures exactly { SaysExactly input.now (meaning facts_said result) }
     ensures agreement { AgreesMeans }
 {
-    let collecting = walk(Form::Header, input, Collecting::new())?;
-    Ok(Facts::of(collecting))
+    walk(Form::Header, input, Collecting::new()).map(Facts::from)
 }
 
 // The facts of the header of `size` bytes that begins at byte `start` of the spool, the bytes of all headers. One that
@@ -82,8 +75,6 @@ pub fn read_header_at<'a>(spool: &'a [u8], start: usize, size: usize) -> Result<
     ensures answers { meaning facts_said result ≡ header_at spool.now start size }
     ensures exactly { start + size ≤ length spool.now → SaysExactly (take size (drop start spool.now)) (meaning facts_said result) }
 {
-    if start > spool.len() || size > spool.len() - start {
-        return Err(Refusal::TooLong);
-    }
-    read_header(&spool[start..start + size])
+    let header = spool.get(start..).and_then(|rest| rest.get(..size));
+    read_header(header.ok_or(Refusal::TooLong)?)
 }

@@ -4,7 +4,7 @@ ghost use Rattle.header.specs.Names.{known_as};
 
 use abnf::strings::is_alike;
 
-#[derive(Clone, Copy)]
+#[derive(Clone, Copy, Debug, PartialEq, Eq)]
 pub enum Known {
     ReturnPath,
     NotificationTo,
@@ -15,29 +15,29 @@ pub enum Known {
     Other,
 }
 
+// The field of this name, where the case of ASCII letters does not count.
+impl<'a> From<&'a [u8]> for Known {
+    ghost from_gives = { λ name known. known ≡ known_as name.now };
+
+    #[tactic(auto, unfolding(crate::specs::Names::known_as))]
+    fn from(name: &'a [u8]) -> Known {
+        match name {
+            _ if is_alike(name, b"Return-Path") => Known::ReturnPath,
+            _ if is_alike(name, b"Disposition-Notification-To") => Known::NotificationTo,
+            _ if is_alike(name, b"Disposition-Notification-Options") => Known::NotificationOptions,
+            _ if is_alike(name, b"Original-Recipient") => Known::OriginalRecipient,
+            _ if is_alike(name, b"Message-ID") => Known::MessageId,
+            _ if is_alike(name, b"Content-Type") => Known::ContentType,
+            _ => Known::Other,
+        }
+    }
+}
+
 impl Known {
-    // The field of this name, where the case of ASCII letters does not count.
+    // The field of this name, as `from` answers.
     pub fn named(name: &[u8]) -> Known
         ensures { result ≡ known_as name.now }
     {
-        if is_alike(name, b"Return-Path") {
-            return Known::ReturnPath;
-        }
-        if is_alike(name, b"Disposition-Notification-To") {
-            return Known::NotificationTo;
-        }
-        if is_alike(name, b"Disposition-Notification-Options") {
-            return Known::NotificationOptions;
-        }
-        if is_alike(name, b"Original-Recipient") {
-            return Known::OriginalRecipient;
-        }
-        if is_alike(name, b"Message-ID") {
-            return Known::MessageId;
-        }
-        if is_alike(name, b"Content-Type") {
-            return Known::ContentType;
-        }
-        Known::Other
+        Known::from(name)
     }
 }

@@ -1,5 +1,4 @@
 // What `kobrany header` prints: one fact a line.
-use crate::show::cause;
 use fields::part::Part;
 use fields::refusal::Refusal;
 use header::facts::{Facts, read_header};
@@ -16,21 +15,17 @@ pub fn header(rt: &HostRuntime, file: &str) -> anyhow::Result<()> {
     Ok(())
 }
 
+// A fact as yes or no: a bool prints itself as true or false.
 fn yes(fact: bool) -> &'static str {
     if fact { "yes" } else { "no" }
 }
 
 fn print_facts(rt: &HostRuntime, facts: Facts) -> io::Result<()> {
-    let asks = yes(facts.asks);
-    let notification = yes(facts.notification);
-    let required = yes(facts.required);
-    let distinct = facts.distinct;
-    let agrees = yes(facts.agrees);
-    println!(rt; "asks: {asks}")?;
-    println!(rt; "notification: {notification}")?;
-    println!(rt; "required: {required}")?;
-    println!(rt; "distinct: {distinct}")?;
-    println!(rt; "agrees: {agrees}")?;
+    println!(rt; "asks: {}", yes(facts.asks))?;
+    println!(rt; "notification: {}", yes(facts.notification))?;
+    println!(rt; "required: {}", yes(facts.required))?;
+    println!(rt; "distinct: {}", facts.distinct)?;
+    println!(rt; "agrees: {}", yes(facts.agrees))?;
     if let Some(recipient) = facts.original_recipient {
         print_part(rt, "original-recipient-type", recipient.kind)?;
         print_part(rt, "original-recipient", recipient.text)?;
@@ -45,28 +40,20 @@ fn print_facts(rt: &HostRuntime, facts: Facts) -> io::Result<()> {
 fn print_part(rt: &HostRuntime, name: &str, part: Part) -> io::Result<()> {
     let at = part.at;
     let size = part.text.len();
-    let text = std::str::from_utf8(part.text).unwrap_or("");
-    if is_visible(part.text) {
-        println!(rt; "{name}: byte {at} length {size} text {text}")
-    } else {
-        println!(rt; "{name}: byte {at} length {size}")
+    match visible(part.text) {
+        Some(text) => println!(rt; "{name}: byte {at} length {size} text {text}"),
+        None => println!(rt; "{name}: byte {at} length {size}"),
     }
 }
 
-fn is_visible(text: &[u8]) -> bool {
-    for b in text {
-        if !matches!(*b, 32..=126) {
-            return false;
-        }
-    }
-    true
+fn visible(text: &[u8]) -> Option<&str> {
+    let text = std::str::from_utf8(text).ok()?;
+    text.bytes()
+        .all(|b| matches!(b, b' '..=b'~'))
+        .then_some(text)
 }
 
 fn print_refusal(rt: &HostRuntime, why: Refusal) -> io::Result<()> {
-    let n = why.numbers();
-    println!(rt;
-        "refused: {} layer {} field {} byte {}",
-        n.number, n.layer, n.field, n.byte
-    )?;
-    println!(rt; "because: {}", cause(why))
+    println!(rt; "refused: {}", why.numbers())?;
+    println!(rt; "because: {why}")
 }

@@ -1,20 +1,20 @@
 // What the commands print.
-use anyhow::anyhow;
 use fields::field::Form;
 use fields::part::Field;
-use fields::refusal::{Objection, Refusal};
+use fields::refusal::{Numbers, Refusal};
 use listing::{Unlisted, list};
 use std::{fs, io};
 
 // Each field of a header with its place, or the refusal with its place. Either is an answer: only what cannot be read is an error.
+// `rt` and `file` stay two parameters: a struct of them would be made at one place and taken apart at the three that print.
 pub fn fields(rt: &HostRuntime, file: &str) -> anyhow::Result<()> {
     let input = fs::read(rt, file)?;
     match list(rt.alloc(), Form::Header, input.as_slice()) {
         Ok(found) => {
             let count = found.len();
             println!(rt; "{file}: accepted, number of fields: {count}")?;
-            for (i, field) in found.iter().enumerate() {
-                print_field(rt, i.saturating_add(1), field)?;
+            for (number, field) in (1..=count).zip(&found) {
+                print_field(rt, number, field)?;
             }
             Ok(())
         }
@@ -22,7 +22,7 @@ pub fn fields(rt: &HostRuntime, file: &str) -> anyhow::Result<()> {
             print_refusal(rt, file, why)?;
             Ok(())
         }
-        Err(Unlisted::Memory) => Err(anyhow!("no memory")),
+        Err(Unlisted::Memory) => Err(Unlisted::Memory.into()),
     }
 }
 
@@ -34,25 +34,13 @@ fn print_field(rt: &HostRuntime, number: usize, field: &Field) -> io::Result<()>
     println!(rt; "field {number} at byte {at}: {name}, body of {size} bytes at byte {body_at}")
 }
 
+// The numbers stand between other words than those of their `Display`.
 fn print_refusal(rt: &HostRuntime, file: &str, why: Refusal) -> io::Result<()> {
-    let n = why.numbers();
-    println!(rt;
-        "{file}: refused {} of layer {} at field {}, byte {}: {}",
-        n.number,
-        n.layer,
-        n.field,
-        n.byte,
-        cause(why)
-    )
-}
-
-pub fn cause(why: Refusal) -> &'static str {
-    match why {
-        Refusal::TooLong => "more than 32,768 bytes",
-        Refusal::BadLine(_) => "a line at fault",
-        Refusal::TooManyFields(_) => "more than 256 fields",
-        Refusal::Objected(Objection::Repeated, _) => "a field that may stand once stands again",
-        Refusal::Objected(Objection::Malformed, _) => "a body outside its grammar",
-        Refusal::Objected(Objection::NotAscii, _) => "a byte above 127 in a report",
-    }
+    let Numbers {
+        number,
+        layer,
+        field,
+        byte,
+    } = why.numbers();
+    println!(rt; "{file}: refused {number} of layer {layer} at field {field}, byte {byte}: {why}")
 }

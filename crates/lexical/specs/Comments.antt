@@ -2,12 +2,12 @@
 use Rattle.std.specs.Prelude.{◌≡◌, ℕ, zero, suc, ◌-◌, ◌<◌, ◌≤◌, List, [], ◌∷◌, length, Some, None, ◌==◌, slice_index, slice_index_or, refl}
 use Rattle.std.proofs.Common.{⊎_elim, sym, ap, subst, ◌∙◌, arith}
 use Rattle.std.proofs.lemmas.Bool.{cond_both, cond-false, eqb-true}
+use Rattle.std.proofs.lemmas.Option.{none-some, same_Some}
 use Rattle.fields.specs.Classes.{wsp}
 use Rattle.fields.proofs.Patterns.{tail, one_ahead}
 use Rattle.abnf.specs.Abnf.{Rule, ◌⋅◌, star, opt, At}
 use Rattle.abnf.specs.Classes.{ctext, behind_byte}
 use Rattle.abnf.specs.Turns.{Left, bind, turns}
-use Rattle.abnf.proofs.Options.{none_some, some_same}
 use Rattle.abnf.proofs.Operators.{seq_in, seq_out, alt_left, alt_right, alt_out, opt_none, opt_some, opt_out, byte_in, byte_out, Many, no_more, one_more, many_in, many_out}
 use Rattle.abnf.proofs.Runs.{Off, Shortens, byte_sound}
 use Rattle.abnf.proofs.Turns.{bind_some, turns_shorten, Going, going_run, going_at, Turned, turned_by}
@@ -19,7 +19,7 @@ use Rattle.lexical.specs.Contents.{Inner, ApartClass, content_shortens, body_sou
 
 -- ---- comment
 pub comment_shortens : (d : ℕ) → Shortens (comment_rest d)
-comment_shortens zero s t e = absurd (none_some e)
+comment_shortens zero s t e = absurd (none-some _ e)
 comment_shortens (suc d) s t e =
     omega (arith, fws_shorter s, turns_shorten (content 41 ctext (comment_rest d)) (content_shortens 41 ctext (comment_rest d) (comment_shortens d)) (suc (length (fws s))) (fws s) t e)
 
@@ -37,7 +37,7 @@ ctext_apart R = record {
 }
 
 pub comment_inner : (d : ℕ) → Inner (comment_rest d) (comment d)
-comment_inner zero = record { sound = λ s t e. absurd (none_some e); complete = λ s t h. absurd h.derived; short = comment_shortens 0 }
+comment_inner zero = record { sound = λ s t e. absurd (none-some _ e); complete = λ s t h. absurd h.derived; short = comment_shortens 0 }
 comment_inner (suc d) =
     let ih = comment_inner d in
     let apart = ctext_apart (comment d) in
@@ -56,7 +56,7 @@ comment_exact s r e =
           let b = bind_some (behind_byte 40 s) (comment_rest deepest) t (sym e ∙ q) in
           subst (λ l. At (comment deepest) l t) (sym (byte_out (byte_sound 40 s b.0 b.1))) ((comment_inner deepest).sound b.0 t b.2);
       answered = λ t h. e ∙ found t h;
-      alone = λ t u h k. some_same (sym (found t h) ∙ found u k);
+      alone = λ t u h k. same_Some _ _ (sym (found t h) ∙ found u k);
     }
 
 -- the loop begins
@@ -92,8 +92,8 @@ abbrev pub Mixed : Rule
 Mixed = star (opt FWS ⋅ comment deepest) ⋅ opt FWS
 
 comments_sound : (k : ℕ) (r t : List ℕ) → turns comments k r ≡ Some t → (s : List ℕ) → At (opt FWS) s r → At Mixed s t
-comments_sound zero r t e s f = absurd (none_some e)
-comments_sound (suc k) [] t e s f = seq_in (many_in no_more) (subst (λ l. At (opt FWS) s l) (some_same e) f)
+comments_sound zero r t e s f = absurd (none-some _ e)
+comments_sound (suc k) [] t e s f = seq_in (many_in no_more) (subst (λ l. At (opt FWS) s l) (same_Some _ _ e) f)
 comments_sound (suc k) (b ∷ u) t e s f =
     let on : List ℕ → Left = λ v. turns comments k (fws v) in
     let ih : (v : List ℕ) → on v ≡ Some t → At Mixed v t = λ v q. comments_sound k (fws v) t q v (fws_sound v) in
@@ -103,7 +103,7 @@ comments_sound (suc k) (b ∷ u) t e s f =
     let p = seq_out (ih v.0 v.2) in
     let c = subst (λ x. At (comment deepest) (x ∷ u) v.0) (sym (eqb-true b 40 h)) ((comment_inner deepest).sound u v.0 v.1) in
     seq_in (many_in (one_more (seq_in f c) (many_out p.1))) p.2)
-    (λ _ q. seq_in (many_in no_more) (subst (λ l. At (opt FWS) s l) (some_same q) f))
+    (λ _ q. seq_in (many_in no_more) (subst (λ l. At (opt FWS) s l) (same_Some _ _ q) f))
     e
 
 comments_stay : (again : List ℕ → Left) (t : List ℕ) → Apart t → comments again t ≡ Some t
@@ -157,7 +157,7 @@ pub cfws_exact : (s : List ℕ) (r : Left) → r ≡ cfws s → CfwsExactly s r
 cfws_exact s r e = record {
   derived = λ t q. cfws_sound s t (sym e ∙ q);
   answered = λ t a h. e ∙ cfws_complete s t a h;
-  alone = λ t u a b h k. some_same (sym (cfws_complete s t a h) ∙ cfws_complete s u b k);
+  alone = λ t u a b h k. same_Some _ _ (sym (cfws_complete s t a h) ∙ cfws_complete s u b k);
 }
 
 pub cfws_told : (s u : List ℕ) (r : Left) → u ≡ fws s → r ≡ comments_behind u → r ≡ cfws s

@@ -2,12 +2,12 @@
 use Rattle.std.specs.Prelude.{◌≡◌, ℕ, zero, suc, ◌<◌, ◌≤◌, Bool, true, false, List, [], ◌∷◌, length, Some, None, ◌==◌, nat_eq, slice_index, refl}
 use Rattle.std.proofs.Common.{⊎_elim, sym, ap, subst, ◌∙◌, arith}
 use Rattle.std.proofs.lemmas.Bool.{cond_both, cond-true, cond-false, eqb-true, eq-eqb, or_from}
+use Rattle.std.proofs.lemmas.Option.{none-some, same_Some}
 use Rattle.fields.specs.Classes.{wsp}
 use Rattle.fields.proofs.Patterns.{tail, one_ahead}
 use Rattle.abnf.specs.Abnf.{Rule, ◌⋅◌, ◌∕◌, star, opt, byte, one, At}
 use Rattle.abnf.specs.Classes.{quotable, behind_one}
 use Rattle.abnf.specs.Turns.{Left, bind, turns, run}
-use Rattle.abnf.proofs.Options.{none_some, some_same}
 use Rattle.abnf.proofs.Operators.{seq_in, seq_out, alt_left, alt_right, alt_out, byte_in, byte_out, one_in, one_out, differs, Many, no_more, one_more, many_in, many_out}
 use Rattle.abnf.proofs.Runs.{Shortens, one_shortens, one_sound, one_complete}
 use Rattle.abnf.proofs.Turns.{bind_some, ShortStep, Going, going_at, Turned, turned_by}
@@ -38,17 +38,17 @@ module _ (close : ℕ) (class : ℕ → Bool) (inner : List ℕ → Left) where
   step = content close class inner
 
   pub content_shortens : Shortens inner → ShortStep (content close class inner)
-  content_shortens hi again ha [] t e = absurd (none_some e)
+  content_shortens hi again ha [] t e = absurd (none-some _ e)
   content_shortens hi again ha (b ∷ s) t e =
       let P : Left → Type 0 = λ o. o ≡ Some t → length t < suc (length s) in
       let on : List ℕ → Left = λ u. again (fws u) in
-      cond_both (b == close) (Some s) _ P (λ _ q. omega (arith, ap length (some_same q)))
+      cond_both (b == close) (Some s) _ P (λ _ q. omega (arith, ap length (same_Some _ _ q)))
       (λ _. cond_both (class b) (on s) _ P (λ _ q. omega (arith, fws_shorter s, ha (fws s) t q))
       (λ _. cond_both (b == 92) (bind (behind_one quotable s) on) _ P
       (λ _ q. let u = bind_some (behind_one quotable s) on t q in omega (arith, one_shortens quotable s u.0 u.1, fws_shorter u.0, ha (fws u.0) t u.2))
       (λ _. cond_both (b == 40) (bind (inner s) on) None P
       (λ _ q. let u = bind_some (inner s) on t q in omega (arith, hi s u.0 u.1, fws_shorter u.0, ha (fws u.0) t u.2))
-      (λ _ q. absurd (none_some q)))))
+      (λ _ q. absurd (none-some _ q)))))
       e
 
   -- ---- one turn of the loop, by what stands first
@@ -91,21 +91,21 @@ module _ (close : ℕ) (class : ℕ → Bool) (inner : List ℕ → Left) where
     body_more f c h = let p = seq_out h in seq_in (many_in (one_more (seq_in f c) (many_out p.1))) p.2
 
     content_sound : (k : ℕ) (r t : List ℕ) → turns step k r ≡ Some t → (s : List ℕ) → At (opt FWS) s r → At Body s t
-    content_sound zero r t e s f = absurd (none_some e)
-    content_sound (suc k) [] t e s f = absurd (none_some e)
+    content_sound zero r t e s f = absurd (none-some _ e)
+    content_sound (suc k) [] t e s f = absurd (none-some _ e)
     content_sound (suc k) (b ∷ u) t e s f =
         let P : Left → Type 0 = λ o. o ≡ Some t → At Body s t in
         let on : List ℕ → Left = λ v. turns step k (fws v) in
         let ih : (v : List ℕ) → on v ≡ Some t → At Body v t = λ v q. content_sound k (fws v) t q v (fws_sound v) in
         cond_both (b == close) (Some u) _ P
-        (λ h q. seq_in (many_in no_more) (seq_in f (subst (λ l. At (byte close) (b ∷ u) l) (some_same q) (byte_in (eqb-true b close h)))))
+        (λ h q. seq_in (many_in no_more) (seq_in f (subst (λ l. At (byte close) (b ∷ u) l) (same_Some _ _ q) (byte_in (eqb-true b close h)))))
         (λ _. cond_both (class b) (on u) _ P
         (λ h q. body_more f (alt_left (one_in h)) (ih u q))
         (λ _. cond_both (b == 92) (bind (behind_one quotable u) on) _ P
         (λ h q. let v = bind_some (behind_one quotable u) on t q in body_more f (alt_right (alt_left (seq_in (byte_in (eqb-true b 92 h)) (one_sound quotable u v.0 v.1)))) (ih v.0 v.2))
         (λ _. cond_both (b == 40) (bind (inner u) on) None P
         (λ h q. let v = bind_some (inner u) on t q in body_more f (alt_right (alt_right (subst (λ x. At R (x ∷ u) v.0) (sym (eqb-true b 40 h)) (known.sound u v.0 v.1)))) (ih v.0 v.2))
-        (λ _ q. absurd (none_some q)))))
+        (λ _ q. absurd (none-some _ q)))))
         e
 
     -- past white space to a byte that is none

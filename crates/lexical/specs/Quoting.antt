@@ -1,9 +1,9 @@
 -- Quoted strings.
 use Rattle.std.specs.Prelude.{◌≡◌, ℕ, suc, List, length, Some, refl}
 use Rattle.std.proofs.Common.{⊎_elim, arith}
+use Rattle.std.proofs.lemmas.Option.{none-some}
 use Rattle.abnf.specs.Abnf.{Rule, ◌⋅◌, star, opt, byte, nothing, At}
 use Rattle.abnf.specs.Classes.{qtext}
-use Rattle.abnf.proofs.Options.{none_some}
 use Rattle.abnf.proofs.Operators.{seq_in, seq_out, alt_left, alt_right, alt_out, many_in, many_out, many_map, no_more, one_more}
 use Rattle.abnf.proofs.Runs.{Shortens}
 use Rattle.abnf.proofs.Turns.{turns_shorten, Going, going_run}
@@ -17,7 +17,7 @@ abbrev pub QuotedTail : Rule
 QuotedTail = star (opt FWS ⋅ qcontent) ⋅ opt FWS ⋅ byte 34
 
 inner : Inner no_comment nothing
-inner = record { sound = λ s t e. absurd (none_some e); complete = λ s t h. absurd h.derived; short = λ s t e. absurd (none_some e) }
+inner = record { sound = λ s t e. absurd (none-some _ e); complete = λ s t h. absurd h.derived; short = λ s t e. absurd (none-some _ e) }
 
 apart : ApartClass 34 qtext nothing
 apart = record {

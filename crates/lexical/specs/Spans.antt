@@ -43,5 +43,5 @@ token_of leaves s =
 abbrev pub spanned : Span → Spanned
 spanned s = record { from = s.from.now; to = s.to.now }
 
-abbrev pub taken : Taken → Token
-taken t = record { text = spanned t.text; rest = t.rest.now }
+abbrev pub taken : Taken Span → Token
+taken t = record { text = spanned t.value; rest = t.rest.now }

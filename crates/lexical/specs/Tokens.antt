@@ -2,13 +2,13 @@
 use Rattle.std.specs.Prelude.{◌≡◌, ℕ, suc, ◌+◌, ◌-◌, ◌<◌, ◌≤◌, Bool, true, false, ◌||◌, ◌⊎◌, List, [], ◌∷◌, ◌++◌, length, Some, ◌==◌, slice_index, refl}
 use Rattle.std.proofs.Common.{inl, inr, ⊎_elim, sym, ap, subst, ◌∙◌, arith, length-append, take_at}
 use Rattle.std.proofs.lemmas.Bool.{cond_both, cond-true, cond-false, eqb-true, eq-eqb, or_from, or_left, or_cases}
+use Rattle.std.proofs.lemmas.Option.{same_Some}
 use Rattle.fields.specs.Classes.{wsp}
 use Rattle.fields.specs.Fields.{Placed}
 use Rattle.fields.proofs.Patterns.{tail, one_ahead}
 use Rattle.abnf.specs.Abnf.{Rule, ◌⋅◌, ◌∕◌, plus, opt, byte, one, At}
 use Rattle.abnf.specs.Classes.{atext, behind_some}
 use Rattle.abnf.specs.Turns.{Left, bind}
-use Rattle.abnf.proofs.Options.{some_same}
 use Rattle.abnf.proofs.Operators.{seq_in, seq_out, alt_left, alt_right, alt_out, opt_out, byte_in, byte_out, one_out, differs, the_in, the_out, sized_in, sized_out, Many, no_more, one_more, many_out}
 use Rattle.abnf.proofs.Runs.{Off, Shortens, some_shortens, some_sound, some_complete}
 use Rattle.abnf.proofs.Turns.{bind_some}
@@ -85,7 +85,7 @@ token_steps {leaves} {R} h s k e =
     let a = bind_some (cfws s) _ k e in
     let b = bind_some (leaves a.0) _ k a.2 in
     let c = bind_some (cfws b.0) _ k b.2 in
-    let same : record { text = record { from = a.0; to = b.0 }; rest = c.0 } ≡ k = some_same c.2 in
+    let same : record { text = record { from = a.0; to = b.0 }; rest = c.0 } ≡ k = same_Some _ _ c.2 in
     subst (λ (z : Token). TokenSteps leaves R s z) same
     (record { before = cfws_sound s a.0 a.1; text = h.sound a.0 b.0 b.1; behind = cfws_sound b.0 c.0 c.1 })
 

@@ -2,14 +2,14 @@
 ghost use Rattle.std.specs.Prelude.{◌≡◌};
 ghost use Rattle.std.specs.Option.{option_map};
 ghost use Rattle.lexical.specs.Reads.{quoted_rest, word_rest};
-ghost use Rattle.lexical.specs.Tokens.{word_shortens};
+ghost use Rattle.lexical.specs.Quoting.{quoted_shortens};
 
-use crate::span::Reader;
+use crate::span::{Opened, Reader, Run};
 use crate::white::skip_fws;
-use abnf::classes::{Atext, Qtext, Quotable, skip_one, skip_some};
+use abnf::classes::{Atext, Qtext, Quotable, skip_one};
 use fields::bytes::Class;
 
-// What is left behind a quoted-string whose first quote was read.
+// What is left behind a quoted-string whose first quote was read. Its loop is not that of `comment`, which calls itself.
 pub fn skip_quoted<'a>(s: &'a [u8]) -> Option<&'a [u8]>
     ensures { option_map (λ x. x.now) result ≡ quoted_rest s.now }
 {
@@ -26,18 +26,28 @@ pub fn skip_quoted<'a>(s: &'a [u8]) -> Option<&'a [u8]>
     None
 }
 
-// The text of a word: an atom's, or a quoted-string from quote to quote.
-pub struct Word;
+// A quoted-string behind its first quote.
+pub struct QuotedTail;
 
-impl Reader for Word {
-    ghost leaves = { word_rest };
+impl Reader for QuotedTail {
+    ghost leaves = { quoted_rest };
 
-    ghost shorter = { word_shortens };
+    ghost shorter = { quoted_shortens };
 
     fn read<'a>(s: &'a [u8]) -> Option<&'a [u8]> {
-        match s {
-            [b'"', tail @ ..] => skip_quoted(tail),
-            _ => skip_some::<Atext>(s),
-        }
+        skip_quoted(s)
     }
+}
+
+// A quoted-string from quote to quote, or else what `Plain` reads.
+pub type QuotedOr<Plain> = Opened<b'"', QuotedTail, Plain>;
+
+// The text of a word: an atom's, or a quoted-string's.
+pub type Word = QuotedOr<Run<Atext>>;
+
+// What is left behind a word's text.
+pub fn skip_word<'a>(s: &'a [u8]) -> Option<&'a [u8]>
+    ensures { option_map (λ x. x.now) result ≡ word_rest s.now }
+{
+    Word::read(s)
 }

@@ -23,6 +23,8 @@ pub fn skip_fws<'a>(s: &'a [u8]) -> &'a [u8]
 }
 
 // What is left behind a comment whose "(" was read, nested at most `depth` deep.
+// By a rule of the project it calls itself for an inner comment. One loop for comments and quoted-strings would be called
+// in between.
 fn comment<'a>(s: &'a [u8], depth: u8) -> Option<&'a [u8]>
     ensures { option_map (λ x. x.now) result ≡ comment_rest depth s.now }
 {

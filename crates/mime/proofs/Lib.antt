@@ -1,4 +1,4 @@
 pub mod Examples
-pub mod Unquoting
+pub mod Comparing
 pub mod Grammar
 pub mod Finding

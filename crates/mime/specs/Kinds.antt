@@ -1,12 +1,12 @@
 -- Which Content-Type is a disposition notification's: RFC 8098, section 3, and RFC 6522, section 3.
-use Rattle.std.specs.Prelude.{ℕ, Bool, false, ◌&&◌, ◌||◌, List, [], ◌∷◌, codes}
+use Rattle.std.specs.Prelude.{ℕ, Bool, ◌&&◌, List, codes}
+use Rattle.std.specs.List.{list_any}
 use Rattle.mime.specs.Rfc2045.{Parameter, Content}
 use Rattle.mime.specs.Values.{unquoted}
 use Rattle.abnf.specs.Strings.{alike}
 
 abbrev pub some : {X : Type 0} → (X → Bool) → List X → Bool
-some p [] = false
-some p (x ∷ xs) = p x || some p xs
+some = list_any
 
 -- it says that the report is a notification
 abbrev pub reports : Parameter → Bool

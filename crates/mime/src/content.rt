@@ -4,82 +4,51 @@ ghost use Rattle.std.specs.Option.{option_map};
 ghost use Rattle.abnf.specs.Exact.{Exactly};
 ghost use Rattle.mime.specs.Rfc2045.{content};
 ghost use Rattle.mime.specs.Kinds.{some, reports, is_report, notifies};
-ghost use Rattle.mime.specs.Reads.{token_rest, value_rest, token_before, parameter_of, parameters_of, content_of};
+ghost use Rattle.mime.specs.Reads.{token_before, parameter_of, parameters_of, content_of};
 ghost use Rattle.mime.specs.Seen.{text, read, said};
-ghost use Rattle.abnf.specs.Classes;
-ghost use Rattle.abnf.proofs.Runs.{some_shortens};
-ghost use Rattle.mime.specs.Tokens.{value_shortens};
 
 use crate::values::means;
-use abnf::classes::{skip_byte, skip_some};
+use abnf::classes::{self, skip_byte};
 use abnf::strings::is_alike;
-use lexical::quoted::skip_quoted;
-use lexical::span::{Reader, around};
+use lexical::quoted::QuotedOr;
+use lexical::span::{Run, Taken, around};
 
 // The text of a token.
-pub struct Token;
-
-impl Reader for Token {
-    ghost leaves = { token_rest };
-
-    ghost shorter = { some_shortens Classes.token };
-
-    fn read<'a>(s: &'a [u8]) -> Option<&'a [u8]> {
-        skip_some::<abnf::classes::Token>(s)
-    }
-}
+pub type Token = Run<classes::Token>;
 
 // The text of a parameter's value: a token's, or a quoted-string from quote to quote.
-pub struct Value;
-
-impl Reader for Value {
-    ghost leaves = { value_rest };
-
-    ghost shorter = { value_shortens };
-
-    fn read<'a>(s: &'a [u8]) -> Option<&'a [u8]> {
-        match s {
-            [b'"', tail @ ..] => skip_quoted(tail),
-            _ => <Token as Reader>::read(s),
-        }
-    }
-}
-
-// A text, and what is left behind it.
-#[derive(Clone, Copy)]
-struct Text<'a> {
-    text: &'a [u8],
-    rest: &'a [u8],
-}
+pub type Value = QuotedOr<Token>;
 
 // The token that stands before a byte `b`, and what is left behind that byte.
-fn token_before<'a>(s: &'a [u8], b: u8) -> Option<Text<'a>>
+#[tactic(auto, unfolding(crate::specs::Reads::token_before))]
+fn token_before<'a>(s: &'a [u8], b: u8) -> Option<Taken<'a, &'a [u8]>>
     ensures { option_map text result ≡ token_before b s.now }
 {
     let token = around::<Token>(s)?;
     let rest = skip_byte(token.rest, b)?;
-    Some(Text {
-        text: token.text.text(),
+    Some(Taken {
+        value: token.value.text(),
         rest,
     })
 }
 
-// A parameter, and what is left behind it.
 #[derive(Clone, Copy)]
 struct Parameter<'a> {
     attribute: &'a [u8],
     value: &'a [u8],
-    rest: &'a [u8],
 }
 
-fn read_parameter<'a>(s: &'a [u8]) -> Option<Parameter<'a>>
+#[tactic(auto, unfolding(crate::specs::Reads::parameter_of))]
+fn read_parameter<'a>(s: &'a [u8]) -> Option<Taken<'a, Parameter<'a>>>
     ensures { option_map read result ≡ parameter_of s.now }
 {
     let attribute = token_before(s, b'=')?;
     let value = around::<Value>(attribute.rest)?;
-    Some(Parameter {
-        attribute: attribute.text,
-        value: value.text.text(),
+    Some(Taken {
+        value: Parameter {
+            attribute: attribute.value,
+            value: value.value.text(),
+        },
         rest: value.rest,
     })
 }
@@ -99,10 +68,10 @@ fn read_parameters(s: &[u8]) -> Option<bool>
     let mut found = false;
     while let [b';', tail @ ..] = rest {
         let p = read_parameter(tail)?;
-        found |= says_notification(p);
+        found |= says_notification(p.value);
         rest = p.rest;
     }
-    if rest.is_empty() { Some(found) } else { None }
+    rest.is_empty().then_some(found)
 }
 
 // Whether the type is multipart/report.
@@ -112,19 +81,14 @@ fn is_report(kind: &[u8], subtype: &[u8]) -> bool
     is_alike(kind, b"multipart") && is_alike(subtype, b"report")
 }
 
-fn content_type(body: &[u8]) -> Option<bool>
-    ensures { result ≡ option_map notifies (content_of body.now) }
-{
-    let kind = token_before(body, b'/')?;
-    let subtype = around::<Token>(kind.rest)?;
-    let reported = read_parameters(subtype.rest)?;
-    Some(is_report(kind.text, subtype.text.text()) && reported)
-}
-
 // Whether the body of a Content-Type field is a disposition notification's; none if it is no Content-Type.
+#[tactic(auto, using(crate::proofs::Grammar::content_exact), unfolding(crate::specs::Reads::content_of))]
 pub fn read_content_type(body: &[u8]) -> Option<bool>
     ensures answers { result ≡ option_map notifies (content_of body.now) }
     ensures exactly { Exactly content notifies body.now result }
 {
-    content_type(body)
+    let kind = token_before(body, b'/')?;
+    let subtype = around::<Token>(kind.rest)?;
+    let reported = read_parameters(subtype.rest)?;
+    Some(is_report(kind.value, subtype.value.text()) && reported)
 }

@@ -2,46 +2,41 @@
 ghost use Rattle.std.specs.Prelude.{◌≡◌, ◌∷◌};
 ghost use Rattle.mime.specs.Values.{between, unquoted};
 ghost use Rattle.abnf.specs.Strings.{alike};
-ghost use Rattle.mime.specs.Meanings.{Next, GoesOn};
+ghost use Rattle.std.specs.Iterator.{YieldsFirst, item_count};
+ghost use Rattle.mime.specs.Meanings.{Next, GoesOn, meanings};
 
 use abnf::strings::is_alike;
 use fields::bytes::{Class, Wsp};
-
-// A byte that a text between quotes means, and what is left behind it.
-#[derive(Clone, Copy)]
-struct Meant<'a> {
-    byte: u8,
-    rest: &'a [u8],
-}
+use lexical::span::Taken;
 
 // The next byte of what is meant, where a "\" stands before `tail`.
-fn behind_backslash<'a>(tail: &'a [u8]) -> Meant<'a>
+fn behind_backslash<'a>(tail: &'a [u8]) -> Taken<'a, u8>
     ensures { Next (92 ∷ tail.now) result }
 {
     match tail {
-        [byte, rest @ ..] => Meant { byte: *byte, rest },
-        [] => Meant {
-            byte: b'\\',
+        [byte, rest @ ..] => Taken { value: *byte, rest },
+        [] => Taken {
+            value: b'\\',
             rest: tail,
         },
     }
 }
 
 // The next byte of what is meant, where a CR stands before `tail`.
-fn behind_cr<'a>(tail: &'a [u8]) -> Meant<'a>
+fn behind_cr<'a>(tail: &'a [u8]) -> Taken<'a, u8>
     ensures { Next (13 ∷ tail.now) result }
 {
     match tail {
-        [b'\n', byte, rest @ ..] if Wsp::holds(*byte) => Meant { byte: *byte, rest },
-        _ => Meant {
-            byte: b'\r',
+        [b'\n', byte, rest @ ..] if Wsp::holds(*byte) => Taken { value: *byte, rest },
+        _ => Taken {
+            value: b'\r',
             rest: tail,
         },
     }
 }
 
 // The next byte of what `s` means behind a first quote; none at the last quote.
-fn next_meant<'a>(s: &'a [u8]) -> Option<Meant<'a>>
+fn next_meant<'a>(s: &'a [u8]) -> Option<Taken<'a, u8>>
     ensures { GoesOn s.now result }
 {
     let [byte, rest @ ..] = s else {
@@ -51,7 +46,25 @@ fn next_meant<'a>(s: &'a [u8]) -> Option<Meant<'a>>
         b'"' => None,
         b'\\' => Some(behind_backslash(rest)),
         b'\r' => Some(behind_cr(rest)),
-        _ => Some(Meant { byte: *byte, rest }),
+        _ => Some(Taken { value: *byte, rest }),
+    }
+}
+
+// The bytes that a text behind a first quote means.
+#[derive(Drop)]
+struct Meanings<'a>(&'a [u8]);
+
+impl<'a> Iterator for Meanings<'a> {
+    type Item = u8;
+
+    ghost next_gives = { YieldsFirst meanings };
+
+    ghost remaining = { item_count meanings };
+
+    fn next(&mut self) -> Option<u8> {
+        let m = next_meant(self.0)?;
+        self.0 = m.rest;
+        Some(m.value)
     }
 }
 
@@ -59,19 +72,9 @@ fn next_meant<'a>(s: &'a [u8]) -> Option<Meant<'a>>
 fn inside_means(s: &[u8], known: &[u8]) -> bool
     ensures { result ≡ alike (between s.now) known.now }
 {
-    let mut rest = s;
-    let mut left = known;
-    while let Some(m) = next_meant(rest) {
-        let [k, more @ ..] = left else {
-            return false;
-        };
-        if !m.byte.eq_ignore_ascii_case(k) {
-            return false;
-        }
-        rest = m.rest;
-        left = more;
-    }
-    left.is_empty()
+    Meanings(s)
+        .map(|b| b.to_ascii_lowercase())
+        .eq(known.iter().map(|b| b.to_ascii_lowercase()))
 }
 
 // Whether a value means `known`.

@@ -2,19 +2,19 @@
 use Rattle.std.proofs.Common.{◌≡◌, ℕ, zero, suc, ◌<◌, ◌≤◌, true, eqb, List, [], ◌∷◌, length, get_or, Some, None, Option, sym, refl, ap, ◌∙◌, subst, arith}
 use Rattle.std.specs.Option.{option_map}
 use Rattle.std.proofs.lemmas.Bool.{cond_both, cond-true, cond-false, eqb-true, eq-eqb}
+use Rattle.std.proofs.lemmas.Option.{none-some, same_Some}
 use Rattle.fields.specs.Clean.{clean}
 use Rattle.fields.proofs.Patterns.{tail, one_ahead}
 use Rattle.abnf.specs.Abnf.{Rule, ◌⋅◌, opt, byte, each, At}
 use Rattle.abnf.specs.Turns.{bind, turns, run}
-use Rattle.abnf.proofs.Options.{none_some, some_same}
 use Rattle.abnf.proofs.Operators.{seq_in, seq_out, opt_none, byte_in, byte_out, empty_in, empty_out}
 use Rattle.abnf.proofs.Runs.{Off}
-use Rattle.abnf.proofs.Turns.{bind_some}
+use Rattle.abnf.proofs.Turns.{bind_some, mapped_some}
 use Rattle.lexical.specs.Rfc5322.{FWS}
 use Rattle.lexical.proofs.Merging.{clean_rest}
 use Rattle.options.specs.Rfc8098.{Series, series}
 use Rattle.options.specs.Reads.{Read, followed, onto, headed, more, series_of}
-use Rattle.options.proofs.Optional.{mapped_some, bind_mapped, bind_same}
+use Rattle.options.proofs.Optional.{bind_mapped, bind_same}
 
 -- from `left` on, what is read and then asked for is still to be `whole`
 pub record Telling {X Y : Type 0} (n : ℕ) (one : List ℕ → Option (Read X)) (ask : Read (List X) → Option Y) (left : List ℕ) (whole : Option Y) : Type 0 where
@@ -22,48 +22,37 @@ pub record Telling {X Y : Type 0} (n : ℕ) (one : List ℕ → Option (Read X))
   pub enough : length left ≤ fuel
   pub same : bind (more n one (turns (more n one) fuel) left) ask ≡ whole
 
--- after one turn
-pub record Told {X Y : Type 0} (n : ℕ) (one : List ℕ → Option (Read X)) (ask : Read (List X) → Option Y) (s next : List ℕ) (whole : Option Y) : Type 0 where
-  pub less : length next < length s
-  pub goes : Telling n one ask next whole
+-- the same, where the first of them is read, or is not there
+abbrev pub Asking : {X Y : Type 0} → ℕ → (List ℕ → Option (Read X)) → (Read (List X) → Option Y) → Option (Read X) → Option Y → Type 0
+Asking n one ask None whole = None ≡ whole
+Asking n one ask (Some x) whole = Telling n one (λ xs. ask (onto x.told xs)) x.rest whole
 
 -- what is asked for, said in another way
-pub retold : {X Y : Type 0} {n : ℕ} {one : List ℕ → Option (Read X)} {ask other : Read (List X) → Option Y} {s next : List ℕ} {whole : Option Y} → ((xs : Read (List X)) → other xs ≡ ask xs) → Told n one ask s next whole → Told n one other s next whole
-retold {n = n} {one = one} {ask = ask} {other = other} {next = next} h t =
-    let g = t.goes in
-    record { less = t.less; goes = record { fuel = g.fuel; enough = g.enough; same = bind_same (more n one (turns (more n one) g.fuel) next) other ask h ∙ g.same } }
+pub retelling : {X Y : Type 0} {n : ℕ} {one : List ℕ → Option (Read X)} {ask other : Read (List X) → Option Y} {left : List ℕ} {whole : Option Y} → ((xs : Read (List X)) → other xs ≡ ask xs) → Telling n one ask left whole → Telling n one other left whole
+retelling {n = n} {one = one} {ask = ask} {other = other} {left = left} h g = record { fuel = g.fuel; enough = g.enough; same = bind_same (more n one (turns (more n one) g.fuel) left) other ask h ∙ g.same }
 
 module _ {X : Type 0} (n : ℕ) (one : List ℕ → Option (Read X)) where
   abbrev step : (List ℕ → Option (Read (List X))) → List ℕ → Option (Read (List X))
   step = more n one
 
   -- ---- the loop
-  module _ {Y : Type 0} (ask : Read (Series X) → Option Y) (s : List ℕ) where
-    pub first_told : (x : Read X) → one s ≡ Some x → Telling n one (λ xs. ask (headed x.told xs)) x.rest (bind (series_of n one s) ask)
-    first_told x e = record {
-      fuel = length x.rest;
-      enough = omega arith;
-      same = sym (ap (λ o. bind (bind o (followed headed (run step))) ask) e ∙ bind_mapped (headed x.told) (run step x.rest) ask);
-    }
+  pub asking_first : {Y : Type 0} (ask : Read (Series X) → Option Y) (on : Read (List X) → Option Y) → ((x : X) (xs : Read (List X)) → on (onto x xs) ≡ ask (headed x xs)) → (s : List ℕ) → Asking n one on (one s) (bind (series_of n one s) ask)
+  asking_first {Y} ask on h s = go (one s)
+    where
+      go : (o : Option (Read X)) → Asking n one on o (bind (bind o (followed headed (run step))) ask)
+      go None = refl
+      go (Some x) = retelling (h x.told) (record { fuel = length x.rest; enough = omega arith; same = sym (bind_mapped (headed x.told) (run step x.rest) ask) })
 
-    pub no_first : one s ≡ None → None ≡ bind (series_of n one s) ask
-    no_first e = sym (ap (λ o. bind (bind o (followed headed (run step))) ask) e)
-
-  module _ {Y : Type 0} (ask : Read (List X) → Option Y) (whole : Option Y) (s : List ℕ) (g : Telling n one ask s whole) (some : 1 ≤ length s) (parted : get_or s 0 0 ≡ n) where
-    next : bind (bind (one (tail 1 s)) (followed onto (turns step g.fuel))) ask ≡ whole
-    next = sym (ap (λ r. bind r ask) (ap (step (turns step g.fuel)) (one_ahead s some) ∙ cond-true (eqb (get_or s 0 0) n) _ _ (eq-eqb _ _ parted))) ∙ g.same
-
-    pub next_told : (x : Read X) → one (tail 1 s) ≡ Some x → length x.rest ≤ length (tail 1 s) → Told n one (λ xs. ask (onto x.told xs)) s x.rest whole
-    next_told x e short =
-        by_fuel g.fuel g.enough (omega (arith, ap length (one_ahead s some)))
-        (sym (ap (λ o. bind (bind o (followed onto (turns step g.fuel))) ask) e ∙ bind_mapped (onto x.told) (turns step g.fuel x.rest) ask) ∙ next)
+  module _ {Y : Type 0} (ask : Read (List X) → Option Y) (whole : Option Y) where
+    pub asking_next : ((s : List ℕ) (x : Read X) → one s ≡ Some x → length x.rest ≤ length s) → (s : List ℕ) → Telling n one ask s whole → 1 ≤ length s → get_or s 0 0 ≡ n → Asking n one ask (one (tail 1 s)) whole
+    asking_next short s g h parted =
+        go (one (tail 1 s)) refl g.fuel (omega (arith, g.enough, ap length (one_ahead s h)))
+        (sym (ap (λ r. bind r ask) (ap (step (turns step g.fuel)) (one_ahead s h) ∙ cond-true (eqb (get_or s 0 0) n) _ _ (eq-eqb _ _ parted))) ∙ g.same)
       where
-        by_fuel : (k : ℕ) → length s ≤ k → length x.rest < length s → bind (turns step k x.rest) (λ xs. ask (onto x.told xs)) ≡ whole → Told n one (λ xs. ask (onto x.told xs)) s x.rest whole
-        by_fuel zero h less q = absurd (omega arith)
-        by_fuel (suc k) h less q = record { less = less; goes = record { fuel = k; enough = omega arith; same = q } }
-
-    pub no_next : one (tail 1 s) ≡ None → None ≡ whole
-    no_next e = sym (ap (λ o. bind (bind o (followed onto (turns step g.fuel))) ask) e) ∙ next
+        go : (o : Option (Read X)) → one (tail 1 s) ≡ o → (k : ℕ) → length (tail 1 s) < k → bind (bind o (followed onto (turns step k))) ask ≡ whole → Asking n one ask o whole
+        go None q k less e = e
+        go (Some x) q zero less e = absurd (omega arith)
+        go (Some x) q (suc k) less e = record { fuel = k; enough = omega (arith, short (tail 1 s) x q); same = sym (bind_mapped (onto x.told) (turns step (suc k) x.rest) ask) ∙ e }
 
   -- ---- the rule
   module _ (A : X → Rule) where
@@ -72,8 +61,8 @@ module _ {X : Type 0} (n : ℕ) (one : List ℕ → Option (Read X)) where
 
     module _ (sound : (s : List ℕ) (x : Read X) → one s ≡ Some x → At (opt FWS ⋅ A x.told) s x.rest) where
       more_sound : (k : ℕ) (s : List ℕ) (xs : Read (List X)) → turns step k s ≡ Some xs → At (each Next xs.told) s xs.rest
-      more_sound zero s xs e = absurd (none_some e)
-      more_sound (suc k) [] xs e = subst (λ (z : Read (List X)). At (each Next z.told) [] z.rest) (some_same e) empty_in
+      more_sound zero s xs e = absurd (none-some _ e)
+      more_sound (suc k) [] xs e = subst (λ (z : Read (List X)). At (each Next z.told) [] z.rest) (same_Some _ _ e) empty_in
       more_sound (suc k) (b ∷ s) xs e =
           let P : Read (List X) → Type 0 = λ z. At (each Next z.told) (b ∷ s) z.rest in
           cond_both (eqb b n) (bind (one s) (followed onto (turns step k))) (Some (record { told = []; rest = b ∷ s })) (λ o. o ≡ Some xs → P xs)
@@ -81,7 +70,7 @@ module _ {X : Type 0} (n : ℕ) (one : List ℕ → Option (Read X)) where
           let x = bind_some (one s) _ xs q in
           let ys = mapped_some (onto x.0.told) (turns step k x.0.rest) xs x.2 in
           subst P ys.2 (seq_in (seq_in opt_none (seq_in (byte_in (eqb-true b n h)) (sound s x.0 x.1))) (more_sound k x.0.rest ys.0 ys.1)))
-          (λ _ q. subst P (some_same q) empty_in)
+          (λ _ q. subst P (same_Some _ _ q) empty_in)
           e
 
       pub series_sound : (s : List ℕ) (r : Read (Series X)) → series_of n one s ≡ Some r → At (opt FWS ⋅ series n A r.told) s r.rest

@@ -7,14 +7,13 @@ use Rattle.abnf.specs.Abnf.{Rule, ◌⋅◌, opt, byte, one, At}
 use Rattle.abnf.specs.Classes.{alpha, atext}
 use Rattle.abnf.specs.Turns.{bind}
 use Rattle.abnf.proofs.Operators.{seq_in, seq_out, byte_in, byte_out, differs, the_out, whole_in, whole_out}
-use Rattle.abnf.proofs.Turns.{bind_some}
+use Rattle.abnf.proofs.Turns.{bind_some, mapped_some}
 use Rattle.lexical.specs.Rfc5322.{FWS}
 use Rattle.lexical.specs.Reads.{fws}
 use Rattle.lexical.specs.Folds.{fws_sound}
 use Rattle.options.specs.declared.importance.Importance.{Importance}
 use Rattle.options.specs.Rfc8098.{importance, attribute}
 use Rattle.options.specs.Reads.{importance_of, atom_of, sides_of, Marking, marking, importance_at, marking_of, no_comma}
-use Rattle.options.proofs.Optional.{mapped_some}
 use Rattle.options.proofs.Everywhere.{Made, made_seq, made_byte, made_one, made_plus, made_fws}
 use Rattle.options.proofs.Words.{fws_to_atom, atom_sound, atom_complete, importance_letters, importance_atom, importance_sound, importance_complete}
 use Rattle.options.proofs.Halving.{no_equals, sides_sound, sides_complete}

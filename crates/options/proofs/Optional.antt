@@ -2,17 +2,8 @@
 use Rattle.std.proofs.Common.{◌≡◌, Some, None, Option, refl}
 use Rattle.std.specs.Option.{option_map}
 use Rattle.abnf.specs.Turns.{bind}
-use Rattle.abnf.proofs.Options.{none_some, some_same}
 
 module _ {A B : Type 0} where
-  pub mapped_some : (f : A → B) (o : Option A) (y : B) → option_map f o ≡ Some y → (x : A) × (o ≡ Some x) × (f x ≡ y)
-  mapped_some f None y e = absurd (none_some e)
-  mapped_some f (Some x) y e = (x, refl, some_same e)
-
-  pub mapped_none : (f : A → B) (o : Option A) → None ≡ option_map f o → o ≡ None
-  mapped_none f None e = refl
-  mapped_none f (Some x) e = absurd (none_some e)
-
   pub mapped_bind : (f : A → B) (o : Option A) → bind o (λ a. Some (f a)) ≡ option_map f o
   mapped_bind f None = refl
   mapped_bind f (Some a) = refl

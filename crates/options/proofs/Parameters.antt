@@ -1,5 +1,5 @@
 -- A parameter.
-use Rattle.std.proofs.Common.{◌≡◌, ℕ, ◌≤◌, true, false, eqb, List, ◌++◌, length, Some, None, Option, sym, refl, ap, ◌∙◌, subst}
+use Rattle.std.proofs.Common.{◌≡◌, ℕ, ◌≤◌, true, false, eqb, List, ◌++◌, length, Some, Option, sym, ap, ◌∙◌, subst}
 use Rattle.std.specs.Option.{option_map}
 use Rattle.fields.specs.Classes.{starts, front, behind}
 use Rattle.fields.specs.Clean.{clean}
@@ -8,7 +8,7 @@ use Rattle.abnf.specs.Abnf.{◌⋅◌, opt, At}
 use Rattle.abnf.specs.Turns.{bind}
 use Rattle.abnf.proofs.Operators.{seq_in, seq_out, byte_out, the_out, whole_in, at_shorter}
 use Rattle.abnf.proofs.Runs.{Off}
-use Rattle.abnf.proofs.Turns.{bind_some}
+use Rattle.abnf.proofs.Turns.{bind_some, mapped_some}
 use Rattle.lexical.specs.Rfc5322.{FWS}
 use Rattle.lexical.specs.Reads.{fws}
 use Rattle.lexical.specs.Spans.{ahead}
@@ -16,12 +16,11 @@ use Rattle.lexical.specs.Folds.{fws_sound}
 use Rattle.lexical.proofs.Merging.{clean_rest}
 use Rattle.lexical.specs.Tokens.{ahead_is}
 use Rattle.options.specs.declared.importance.Importance.{Importance}
-use Rattle.options.specs.Rfc8098.{Series, Parameter, disposition_notification_parameter}
+use Rattle.options.specs.Rfc8098.{Parameter, disposition_notification_parameter}
 use Rattle.options.specs.Reads.{Read, Marking, marking, marking_of, no_comma, values_of, with_values, parameter_at, parameter_of, mark_of}
-use Rattle.options.proofs.Optional.{mapped_some}
 use Rattle.options.proofs.Words.{fws_to_atom}
 use Rattle.options.proofs.Markings.{Marks, at_more, marking_sound, marking_complete, marks_plain}
-use Rattle.options.proofs.Values.{Ends, Values, values_sound, values_complete, values_left}
+use Rattle.options.proofs.Values.{Ends, Values, values_sound, values_complete}
 
 -- ---- what stands before the first ",", and the values
 abbrev marks_of : Parameter → Marking
@@ -85,35 +84,5 @@ parameter_complete s m t p c h g ends =
     ∙ ap (option_map (with_values (marks_of p))) (values_complete to m t p.values (clean_rest marks (clean_rest a.1 c)) q.2 g ends.0 ends.1)
 
 -- ---- what the code keeps of it
-abbrev pub importance_in : List ℕ → Option Importance
-importance_in s = option_map (λ m. m.mark) (marking_of s)
-
 abbrev pub parameter_mark : List ℕ → Option (Read Importance)
 parameter_mark s = option_map mark_of (parameter_of s)
-
-module _ (s from to head : List ℕ) (begins : from ≡ fws s) (stops : to ≡ behind no_comma from) (is-head : head ≡ ahead from to) where
-  abbrev rest_of : Importance → Option (Read Importance)
-  rest_of i = option_map (λ r. record { told = i; rest = r }) (values_left to)
-
-  mark_is : bind (importance_in head) rest_of ≡ parameter_mark s
-  unfolding parameter_of
-  mark_is =
-      go (marking_of head) (values_of to)
-      ∙ ap (λ l. option_map mark_of (bind (marking_of l) (λ m. option_map (with_values m) (values_of to)))) is-head
-      ∙ ap (λ l. option_map mark_of (parameter_at from l)) stops
-      ∙ ap (λ l. option_map mark_of (parameter_at l (behind no_comma l))) begins
-    where
-      go : (o : Option Marking) (v : Option (Read (Series (List ℕ)))) → bind (option_map (λ m. m.mark) o) (λ i. option_map (λ r. record { told = i; rest = r }) (option_map (λ w. w.rest) v)) ≡ option_map mark_of (bind o (λ m. option_map (with_values m) v))
-      go None v = refl
-      go (Some m) None = refl
-      go (Some m) (Some v) = refl
-
-  pub no_marking : None ≡ importance_in head → None ≡ parameter_mark s
-  no_marking e = ap (λ o. bind o rest_of) e ∙ mark_is
-
-  module _ (i : Importance) (marked : Some i ≡ importance_in head) where
-    pub no_values : None ≡ values_left to → None ≡ parameter_mark s
-    no_values e = ap (option_map (λ r. record { told = i; rest = r })) e ∙ ap (λ o. bind o rest_of) marked ∙ mark_is
-
-    pub parameter_told : (r : List ℕ) → Some r ≡ values_left to → Some (record { told = i; rest = r }) ≡ parameter_mark s
-    parameter_told r e = ap (option_map (λ l. record { told = i; rest = l })) e ∙ ap (λ o. bind o rest_of) marked ∙ mark_is

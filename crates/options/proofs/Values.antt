@@ -1,5 +1,5 @@
 -- The values of a parameter.
-use Rattle.std.proofs.Common.{◌≡◌, ℕ, ◌≤◌, true, eqb, List, length, get_or, Some, None, Option, sym, refl, ap, ◌∙◌, subst}
+use Rattle.std.proofs.Common.{◌≡◌, ℕ, ◌≤◌, true, eqb, List, length, get_or, Some, Option, sym, refl, ap, ◌∙◌, subst}
 use Rattle.std.specs.Option.{option_map}
 use Rattle.fields.specs.Clean.{clean}
 use Rattle.fields.proofs.Patterns.{tail}
@@ -8,7 +8,7 @@ use Rattle.abnf.specs.Classes.{atext, behind_byte}
 use Rattle.abnf.specs.Turns.{bind}
 use Rattle.abnf.proofs.Operators.{seq_in, seq_out, opt_none, at_shorter}
 use Rattle.abnf.proofs.Runs.{Off, byte_sound, byte_complete}
-use Rattle.abnf.proofs.Turns.{bind_some}
+use Rattle.abnf.proofs.Turns.{bind_some, mapped_some}
 use Rattle.lexical.specs.Rfc5322.{FWS, atom_text, quoted_text}
 use Rattle.lexical.specs.Reads.{word_rest}
 use Rattle.lexical.specs.Spans.{Token, token_of}
@@ -17,8 +17,8 @@ use Rattle.lexical.proofs.Merging.{clean_rest, fws_cfws, cfws_fws}
 use Rattle.lexical.specs.Tokens.{TokenSteps, token_steps, token_found, around_in, around_out, split, join, word_reads}
 use Rattle.options.specs.Rfc8098.{Series, series, value}
 use Rattle.options.specs.Reads.{Read, series_of, token_read, value_of, values_of}
-use Rattle.options.proofs.Optional.{mapped_some, mapped_bind}
-use Rattle.options.proofs.Listing.{Telling, Told, first_told, no_first, next_told, no_next, series_sound, series_complete}
+use Rattle.options.proofs.Optional.{mapped_bind}
+use Rattle.options.proofs.Listing.{Telling, Asking, asking_first, asking_next, series_sound, series_complete}
 
 -- what may stand behind a value: the end, or a byte that is neither white space nor goes on with it
 abbrev pub Ends : List ℕ → Type 0
@@ -69,22 +69,21 @@ kept xs = Some xs.rest
 abbrev pub values_left : List ℕ → Option (List ℕ)
 values_left s = option_map (λ v. v.rest) (values_of s)
 
-module _ (s u : List ℕ) (comma : Some u ≡ behind_byte 44 s) where
-  left_is : bind (series_of 44 value_of u) (λ v. Some v.rest) ≡ values_left s
-  unfolding values_of
-  left_is = mapped_bind (λ v. v.rest) (series_of 44 value_of u) ∙ ap (λ o. option_map (λ v. v.rest) (bind o (series_of 44 value_of))) comma
+-- from the value on that `from` begins with
+abbrev pub Valuing : List ℕ → List ℕ → Type 0
+Valuing from s = Asking 44 value_of kept (value_of from) (values_left s)
 
-  pub first_value : (k : Token) → Some k ≡ token_of word_rest u → Telling 44 value_of kept k.rest (values_left s)
-  first_value k e = subst (Telling 44 value_of kept k.rest) left_is (first_told 44 value_of (λ v. Some v.rest) u (token_read k) (ap (option_map token_read) (sym e)))
+pub valuing_first : (s u : List ℕ) → Some u ≡ behind_byte 44 s → Valuing u s
+unfolding values_of
+valuing_first s u comma =
+    subst (Asking 44 value_of kept (value_of u))
+    (mapped_bind (λ v. v.rest) (series_of 44 value_of u) ∙ ap (λ o. option_map (λ v. v.rest) (bind o (series_of 44 value_of))) comma)
+    (asking_first 44 value_of (λ v. Some v.rest) kept (λ x xs. refl) u)
 
-  pub no_first_value : None ≡ token_of word_rest u → None ≡ values_left s
-  no_first_value e = no_first 44 value_of (λ v. Some v.rest) u (ap (option_map token_read) (sym e)) ∙ left_is
+pub value_less : (from : List ℕ) (k : Token) → Some k ≡ token_of word_rest from → length k.rest ≤ length from
+value_less from k e = value_short from (token_read k) (ap (option_map token_read) (sym e))
 
-module _ (whole : Option (List ℕ)) (s : List ℕ) (g : Telling 44 value_of kept s whole) (some : 1 ≤ length s) (comma : get_or s 0 0 ≡ 44) where
-  pub next_value : (k : Token) → Some k ≡ token_of word_rest (tail 1 s) → Told 44 value_of kept s k.rest whole
-  next_value k e =
-      let f : value_of (tail 1 s) ≡ Some (token_read k) = ap (option_map token_read) (sym e) in
-      next_told 44 value_of kept whole s g some comma (token_read k) f (value_short (tail 1 s) (token_read k) f)
-
-  pub no_next_value : None ≡ token_of word_rest (tail 1 s) → None ≡ whole
-  no_next_value e = no_next 44 value_of kept whole s g some comma (ap (option_map token_read) (sym e))
+pub valuing_next : (s from : List ℕ) → Valuing from s → (k : Token) → Some k ≡ token_of word_rest from → 1 ≤ length k.rest → get_or k.rest 0 0 ≡ 44 → Valuing (tail 1 k.rest) s
+valuing_next s from g k e =
+    let told : Telling 44 value_of kept k.rest (values_left s) = subst (λ o. Asking 44 value_of kept (option_map token_read o) (values_left s)) (sym e) g in
+    asking_next 44 value_of kept (values_left s) value_short k.rest told

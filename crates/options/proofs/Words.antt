@@ -1,15 +1,15 @@
 -- Atoms with [FWS] behind them, and keywords.
-use Rattle.std.proofs.Common.{◌≡◌, ℕ, suc, ◌≤◌, true, false, eqb, List, [], ◌∷◌, ◌++◌, map, length, Some, None, Option, sym, refl, ap, ◌∙◌, subst, ⊎_elim, arith}
+use Rattle.std.proofs.Common.{◌≡◌, ℕ, ◌≤◌, true, false, eqb, List, [], ◌∷◌, ◌++◌, map, length, Some, None, Option, sym, refl, ap, ◌∙◌, subst, ⊎_elim, arith}
 use Rattle.std.specs.Char.{to_ascii_lowercase}
 use Rattle.std.specs.Str.{bytes_eq}
 use Rattle.std.proofs.lemmas.Slice.Eq.{bytes_eq-Decides}
-use Rattle.std.proofs.lemmas.Bool.{cond_both, and_parts, and_from, or_from, or_left, cases_Bool, eqb-true, eqb-false}
+use Rattle.std.proofs.lemmas.Bool.{cond_both, and_parts, and_from, or_from, or_left}
 use Rattle.std.proofs.lemmas.Bool.Decides.{nat_tests}
+use Rattle.std.proofs.lemmas.Option.{none-some, same_Some}
 use Rattle.fields.specs.Classes.{every}
 use Rattle.abnf.specs.Abnf.{◌⋅◌, opt, one, the, At}
 use Rattle.abnf.specs.Classes.{within, alpha, atext, behind_some}
 use Rattle.abnf.specs.Turns.{bind}
-use Rattle.abnf.proofs.Options.{none_some, some_same}
 use Rattle.abnf.proofs.Operators.{seq_in, seq_out, alt_right, opt_some, opt_out, one_in, one_out, differs, the_in, Many, no_more, one_more, many_in}
 use Rattle.abnf.proofs.Runs.{Off, some_sound, some_complete}
 use Rattle.abnf.proofs.Turns.{bind_some}
@@ -25,16 +25,8 @@ use Rattle.options.specs.Reads.{filled, importance_spelt, importance_of, atom_of
 
 -- ---- nothing is left
 pub filled_some : {X : Type 0} (x y : X) (s : List ℕ) → filled x s ≡ Some y → (s ≡ []) × (x ≡ y)
-filled_some x y [] e = (refl, some_same e)
-filled_some x y (b ∷ s) e = absurd (none_some e)
-
-filled_told : {X : Type 0} (x : X) (s : List ℕ) → true ≡ eqb (length s) 0 → Some x ≡ filled x s
-filled_told x [] e = refl
-filled_told x (b ∷ s) e = absurd (omega (arith, eqb-true (suc (length s)) 0 (sym e)))
-
-unfilled_told : {X : Type 0} (x : X) (s : List ℕ) → false ≡ eqb (length s) 0 → None ≡ filled x s
-unfilled_told x [] e = absurd (eqb-false 0 0 (sym e) refl)
-unfilled_told x (b ∷ s) e = refl
+filled_some x y [] e = (refl, same_Some _ _ e)
+filled_some x y (b ∷ s) e = absurd (none-some _ e)
 
 -- ---- 1*atext [FWS]
 -- [FWS] is taken up to an atom
@@ -64,16 +56,6 @@ atom_complete {x} {s} {m} a e f =
     ap (λ o. bind o (λ t. filled (ahead s t) (fws t))) (some_complete atext s m a (fws_off f))
     ∙ ap (filled (ahead s m)) (fws_complete m [] f tt tt)
     ∙ ap Some (ahead_is s x m e)
-
-module _ (s t u : List ℕ) (read : behind_some atext s ≡ Some t) (left : u ≡ fws t) where
-  atom_at : filled (ahead s t) u ≡ atom_of s
-  atom_at = ap (filled (ahead s t)) left ∙ ap (λ o. bind o (λ v. filled (ahead s v) (fws v))) (sym read)
-
-  pub atom_told : true ≡ eqb (length u) 0 → (x : List ℕ) → x ≡ ahead s t → Some x ≡ atom_of s
-  atom_told e x f = ap Some f ∙ filled_told (ahead s t) u e ∙ atom_at
-
-  pub no_atom : false ≡ eqb (length u) 0 → None ≡ atom_of s
-  no_atom e = unfilled_told (ahead s t) u e ∙ atom_at
 
 -- ---- keywords
 lower_alpha : (b : ℕ) → within 97 122 (to_ascii_lowercase b) ≡ true → alpha b ≡ true
@@ -112,17 +94,11 @@ pub importance_sound : (w : List ℕ) (i : Importance) → importance_of w ≡ S
 importance_sound w i e =
     let k = map to_ascii_lowercase w in
     let P : Option Importance → Type 0 = λ o. o ≡ Some i → importance i w in
-    let spelt : (j : Importance) → bytes_eq k (importance_word j) ≡ true → P (Some j) = λ j h q. (bytes_eq-Decides k (importance_word j)).0 h ∙ ap importance_word (some_same q) in
+    let spelt : (j : Importance) → bytes_eq k (importance_word j) ≡ true → P (Some j) = λ j h q. (bytes_eq-Decides k (importance_word j)).0 h ∙ ap importance_word (same_Some _ _ q) in
     cond_both (bytes_eq k (importance_word Required)) (Some Required) _ P (spelt Required)
-    (λ _. cond_both (bytes_eq k (importance_word Optional)) (Some Optional) None P (spelt Optional) (λ _ q. absurd (none_some q)))
+    (λ _. cond_both (bytes_eq k (importance_word Optional)) (Some Optional) None P (spelt Optional) (λ _ q. absurd (none-some _ q)))
     e
 
 pub importance_complete : (w : List ℕ) (i : Importance) → importance i w → importance_of w ≡ Some i
 importance_complete w Required e = ap importance_spelt e
 importance_complete w Optional e = ap importance_spelt e
-
-unlike : (xs ys : List ℕ) → (xs ≡ ys → ⊥) → bytes_eq xs ys ≡ false
-unlike xs ys h = ⊎_elim (λ t. absurd (h ((bytes_eq-Decides xs ys).0 t))) (λ f. f) (cases_Bool (bytes_eq xs ys))
-
-pub no_importance : (w : List ℕ) → (map to_ascii_lowercase w ≡ importance_word Required → ⊥) → (map to_ascii_lowercase w ≡ importance_word Optional → ⊥) → None ≡ importance_of w
-no_importance w r o = let a = unlike (map to_ascii_lowercase w) (importance_word Required) r in let b = unlike (map to_ascii_lowercase w) (importance_word Optional) o in rw (a, b)

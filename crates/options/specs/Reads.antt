@@ -1,6 +1,8 @@
 -- What is read of a body, part by part.
 use Rattle.std.specs.Prelude.{ℕ, Bool, true, false, cond, not, ◌||◌, List, [], ◌∷◌, map, Some, None, Option, ◌==◌}
 use Rattle.std.specs.Option.{option_map}
+use Rattle.std.specs.List.{list_any}
+use Rattle.std.specs.Borrow.{Bor}
 use Rattle.std.specs.Char.{to_ascii_lowercase}
 use Rattle.std.specs.Str.{bytes_eq}
 use Rattle.fields.specs.Classes.{behind}
@@ -10,8 +12,7 @@ use Rattle.lexical.specs.Reads.{fws, word_rest}
 use Rattle.lexical.specs.Spans.{Token, ahead, text_of, token_of}
 use Rattle.options.specs.declared.importance.Importance.{Importance}
 use Rattle.options.specs.declared.importance.Importance.TheVariants.{Required, Optional}
-use Rattle.options.specs.declared.marking.Halves.{Halves}
-use Rattle.options.specs.declared.parameter.Marked.{Marked}
+use Rattle.lexical.specs.declared.span.Taken.{Taken}
 use Rattle.options.specs.Rfc8098.{Series, Parameter, importance_word}
 
 -- what was read, and what is left behind it
@@ -120,19 +121,18 @@ is_required Required = true
 is_required Optional = false
 
 abbrev pub any_required : List Parameter → Bool
-any_required [] = false
-any_required (p ∷ ps) = is_required p.importance || any_required ps
+any_required = list_any (λ p. is_required p.importance)
 
 -- some parameter is marked required
 abbrev pub some_required : Series Parameter → Bool
 some_required ps = is_required ps.first.importance || any_required ps.others
 
 -- ---- what the code keeps
-abbrev pub sides : Halves → Sides
-sides h = record { left = h.left.now; right = h.right.now }
+abbrev pub sides : Bor (List ℕ) × Bor (List ℕ) → Sides
+sides h = record { left = h.0.now; right = h.1.now }
 
-abbrev pub marked : Marked → Read Importance
-marked m = record { told = m.importance; rest = m.rest.now }
+abbrev pub marked : Taken Importance → Read Importance
+marked t = record { told = t.value; rest = t.rest.now }
 
 abbrev pub mark_of : Read Parameter → Read Importance
 mark_of p = record { told = p.told.importance; rest = p.rest }

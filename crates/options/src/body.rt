@@ -8,29 +8,21 @@ ghost use Rattle.options.specs.Reads.{options_of, some_required};
 
 use crate::parameter::read_parameter;
 
-// Whether some parameter is marked required, in one pass over them.
-fn find_required(body: &[u8]) -> Option<bool>
-    ensures { result ≡ option_map some_required (options_of body.now) }
-{
-    let first = read_parameter(body)?;
-    let mut required = first.importance.is_required();
-    let mut rest = first.rest;
-    while let [b';', tail @ ..] = rest {
-        let next = read_parameter(tail)?;
-        required |= next.importance.is_required();
-        rest = next.rest;
-    }
-    if rest.is_empty() {
-        Some(required)
-    } else {
-        None
-    }
-}
-
 // Whether some parameter is marked required, or None for a body outside the grammar.
+// That the body is clean is a premise, since a type of clean bodies would ask it of every caller.
 pub fn read_options(body: &[u8]) -> Option<bool>
     ensures answers { result ≡ option_map some_required (options_of body.now) }
     ensures exactly { clean body.now ≡ true → Exactly options_body some_required body.now result }
 {
-    find_required(body)
+    let mut rest = body;
+    let mut required = false;
+    loop {
+        let p = read_parameter(rest)?;
+        required |= p.value.is_required();
+        match p.rest {
+            [] => return Some(required),
+            [b';', tail @ ..] => rest = tail,
+            _ => return None,
+        }
+    }
 }

@@ -13,42 +13,25 @@ fn read_atom<'a>(s: &'a [u8]) -> Option<&'a [u8]>
     ensures { option_map (λ x. x.now) result ≡ atom_of s.now }
 {
     let to = skip_some::<Atext>(s)?;
-    if skip_fws(to).is_empty() {
-        Some(Span { from: s, to }.text())
-    } else {
-        None
-    }
-}
-
-// What stands on both sides of an "=".
-#[derive(Clone, Copy)]
-pub(crate) struct Halves<'a> {
-    pub left: &'a [u8],
-    pub right: &'a [u8],
+    skip_fws(to)
+        .is_empty()
+        .then_some(Span { from: s, to }.text())
 }
 
 // What stands on both sides of the last "=": an attribute may have that sign in it, an importance may not.
-fn part_at_equals<'a>(s: &'a [u8]) -> Option<Halves<'a>>
+fn part_at_equals(s: &[u8]) -> Option<(&[u8], &[u8])>
     ensures { option_map sides result ≡ sides_of s.now }
 {
-    let mut front = s;
-    while let [left @ .., last] = front {
-        if *last == b'=' {
-            return Some(Halves {
-                left,
-                right: &s[front.len()..],
-            });
-        }
-        front = left;
-    }
-    None
+    let at = s.iter().rposition(|b| *b == b'=')?;
+    Some((&s[..at], &s[at + 1..]))
 }
 
 // The importance that a parameter is marked with, where these are all bytes before its first ",".
+#[tactic(auto, unfolding(crate::specs::Reads::marking_of))]
 pub(crate) fn read_marking(s: &[u8]) -> Option<Importance>
     ensures { result ≡ option_map (λ m. m.mark) (marking_of s.now) }
 {
-    let halves = part_at_equals(s)?;
-    let _ = read_atom(halves.left)?;
-    importance_of(read_atom(skip_fws(halves.right))?)
+    let (left, right) = part_at_equals(s)?;
+    read_atom(left)?;
+    importance_of(read_atom(skip_fws(right))?)
 }

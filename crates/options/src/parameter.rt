@@ -8,7 +8,7 @@ use crate::marking::read_marking;
 use abnf::classes::skip_byte;
 use fields::bytes::{Class, skip};
 use lexical::quoted::Word;
-use lexical::span::{Span, around};
+use lexical::span::{Span, Taken, around};
 use lexical::white::skip_fws;
 
 // Any byte but ",".
@@ -26,29 +26,24 @@ impl Class for NoComma {
 fn skip_values<'a>(s: &'a [u8]) -> Option<&'a [u8]>
     ensures { option_map (λ x. x.now) result ≡ option_map (λ v. v.rest) (values_of s.now) }
 {
-    let first = around::<Word>(skip_byte(s, b',')?)?;
-    let mut rest = first.rest;
-    while let [b',', tail @ ..] = rest {
-        let next = around::<Word>(tail)?;
-        rest = next.rest;
+    let mut from = skip_byte(s, b',')?;
+    loop {
+        let rest = around::<Word>(from)?.rest;
+        let [b',', tail @ ..] = rest else {
+            return Some(rest);
+        };
+        from = tail;
     }
-    Some(rest)
 }
 
-// The importance of a parameter, and what is left behind the parameter and its white space.
-#[derive(Clone, Copy)]
-pub(crate) struct Marked<'a> {
-    pub importance: Importance,
-    pub rest: &'a [u8],
-}
-
-// The parameter that `s` begins with, behind [FWS].
-pub(crate) fn read_parameter<'a>(s: &'a [u8]) -> Option<Marked<'a>>
+// The importance of the parameter that `s` begins with, behind [FWS].
+#[tactic(auto, unfolding(crate::specs::Reads::parameter_of))]
+pub(crate) fn read_parameter<'a>(s: &'a [u8]) -> Option<Taken<'a, Importance>>
     ensures { option_map marked result ≡ option_map mark_of (parameter_of s.now) }
 {
     let from = skip_fws(s);
     let to = skip::<NoComma>(from);
-    let importance = read_marking(Span { from, to }.text())?;
+    let value = read_marking(Span { from, to }.text())?;
     let rest = skip_values(to)?;
-    Some(Marked { importance, rest })
+    Some(Taken { value, rest })
 }

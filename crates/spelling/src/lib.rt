@@ -1,88 +1,31 @@
 // How the cases spell their bytes: `~` is CRLF, `{3*ab}` is `ababab`; `\r`, `\n`, `\t`, `\0` and `\h` are CR, LF, tab, NUL and 233; behind `\` any other byte is itself.
 #![tactic(auto)]
 
+ghost use Rattle.std.specs.Prelude.{◌≤◌, length, vec_len};
+ghost use Rattle.std.specs.Str.Iter.{bytes_rest};
+
 use std::alloc::{AllocError, Global};
+use std::str::Bytes;
 
-#[derive(Clone, Copy)]
-enum Mode {
-    Text,
-    Escape,
-    Count,
-}
-
-#[derive(Drop)]
-struct Speller {
-    mode: Mode,
-    bytes: Vec<u8>,
+pub fn spelled(heap: Global, text: &str) -> Result<Vec<u8>, AllocError> {
+    let mut bytes = Vec::new(heap);
+    let mut rest = text.bytes();
     // How often the group that is open stands there, and where it begins.
-    count: usize,
-    group: usize,
-}
-
-impl Speller {
-    fn take(&mut self, b: u8) -> Result<(), AllocError> {
-        match self.mode {
-            Mode::Text => self.text(b),
-            Mode::Escape => {
-                self.mode = Mode::Text;
-                self.put(escaped(b))
-            }
-            Mode::Count => {
-                self.digit(b);
-                Ok(())
-            }
-        }
-    }
-
-    fn text(&mut self, b: u8) -> Result<(), AllocError> {
+    let mut times = 0;
+    let mut group = 0;
+    while let Some(b) = rest.next() {
         match b {
-            b'~' => {
-                self.put(b'\r')?;
-                self.put(b'\n')
-            }
-            b'\\' => {
-                self.mode = Mode::Escape;
-                Ok(())
-            }
+            b'~' => bytes.extend_from_slice(b"\r\n")?,
+            b'\\' => bytes.extend(rest.next().map(escaped))?,
             b'{' => {
-                self.mode = Mode::Count;
-                self.count = 0;
-                Ok(())
+                times = count(&mut rest);
+                group = bytes.len();
             }
-            b'}' => self.repeat(),
-            _ => self.put(b),
+            b'}' => repeat(&mut bytes, group, times)?,
+            _ => bytes.push(b)?,
         }
     }
-
-    fn digit(&mut self, b: u8) {
-        if b == b'*' {
-            self.mode = Mode::Text;
-            self.group = self.bytes.len();
-        } else {
-            self.count = self
-                .count
-                .saturating_mul(10)
-                .saturating_add(usize::from(b.wrapping_sub(b'0')));
-        }
-    }
-
-    fn put(&mut self, b: u8) -> Result<(), AllocError> {
-        self.bytes.push(b)?;
-        Ok(())
-    }
-
-    // The group stands there once already.
-    fn repeat(&mut self) -> Result<(), AllocError> {
-        let end = self.bytes.len();
-        for _ in 1..self.count {
-            for i in self.group..end {
-                if let Some(b) = self.bytes.get(i).copied() {
-                    self.put(b)?;
-                }
-            }
-        }
-        Ok(())
-    }
+    Ok(bytes)
 }
 
 fn escaped(b: u8) -> u8 {
@@ -96,21 +39,74 @@ fn escaped(b: u8) -> u8 {
     }
 }
 
-pub fn spelled(heap: Global, text: &str) -> Result<Vec<u8>, AllocError> {
-    let mut speller = Speller {
-        mode: Mode::Text,
-        bytes: Vec::new(heap),
-        count: 0,
-        group: 0,
-    };
-    for b in text.bytes() {
-        speller.take(b)?;
+// The number before a `*`, which is read too. By `take_while` and `fold` it was not proved that less of `rest` is left.
+fn count(rest: &mut Bytes) -> usize
+    ensures { length (bytes_rest rest.new) ≤ length (bytes_rest rest.old) }
+{
+    let mut n: usize = 0;
+    while let Some(b) = rest.next() {
+        if b == b'*' {
+            break;
+        }
+        n = n
+            .saturating_mul(10)
+            .saturating_add(usize::from(b.wrapping_sub(b'0')));
     }
-    let Speller {
-        mode: _,
-        bytes,
-        count: _,
-        group: _,
-    } = speller;
-    Ok(bytes)
+    n
+}
+
+// The group stands there once already.
+fn repeat(bytes: &mut Vec<u8>, group: usize, times: usize) -> Result<(), AllocError>
+    requires { group ≤ vec_len bytes.old }
+    ensures { vec_len bytes.old ≤ vec_len bytes.new }
+{
+    let end = bytes.len();
+    for _ in 1..times {
+        bytes.extend_from_within(group..end)?;
+    }
+    Ok(())
+}
+
+#[cfg(test)]
+mod tests {
+    use super::*;
+    use std::test::Fail;
+
+    fn spells(rt: &HostRuntime, text: &str, bytes: &[u8]) -> Result<bool, Fail> {
+        Ok(spelled(rt.alloc(), text)?.as_slice() == bytes)
+    }
+
+    #[test]
+    fn spells_bytes(rt: HostRuntime) -> Result<(), Fail> {
+        assert!(rt; spells(&rt, "", b"")?);
+        assert!(rt; spells(&rt, "X: a~", b"X: a\r\n")?);
+        assert!(rt; spells(&rt, "\\r\\n\\t\\0\\h\\~\\}\\\\", b"\r\n\t\0\xe9~}\\")?);
+        Ok(())
+    }
+
+    #[test]
+    fn spells_groups(rt: HostRuntime) -> Result<(), Fail> {
+        assert!(rt; spells(&rt, "x{3*ab}y", b"xabababy")?);
+        assert!(rt;
+            spells(
+                &rt,
+                "{1*a}{12*~}",
+                b"a\r\n\r\n\r\n\r\n\r\n\r\n\r\n\r\n\r\n\r\n\r\n\r\n"
+            )?
+        );
+        assert!(rt; spells(&rt, "{2*\\}b}", b"}b}b")?);
+        Ok(())
+    }
+
+    // What no case has to spell.
+    #[test]
+    fn spells_odd_texts(rt: HostRuntime) -> Result<(), Fail> {
+        assert!(rt; spells(&rt, "a\\", b"a")?);
+        assert!(rt; spells(&rt, "a}b", b"ab")?);
+        assert!(rt; spells(&rt, "a{12", b"a")?);
+        assert!(rt; spells(&rt, "{0*a}{*b}", b"ab")?);
+        assert!(rt; spells(&rt, "{2*a}b}", b"aabaab")?);
+        assert!(rt; spells(&rt, "{3*a{2*b}c}", b"abbcbbc")?);
+        Ok(())
+    }
 }

@@ -1,12 +1,12 @@
 -- Text and folds, from the front.
 use Rattle.std.proofs.Common.{◌≡◌, ℕ, ◌<◌, true, false, ◌&&◌, eqb, List, [], ◌∷◌, length, Some, None, sym, refl, ap, ◌∙◌, subst, ⊎_elim, arith}
 use Rattle.std.proofs.lemmas.Bool.{cond_both, cond-true, cond-false, and_left, or_cases, eqb-true, ne_eqb}
+use Rattle.std.proofs.lemmas.Option.{none-some}
 use Rattle.fields.specs.Classes.{wsp, behind}
 use Rattle.fields.specs.Scans.{fold_start}
 use Rattle.fields.proofs.Folding.{fold_at, fold_size}
 use Rattle.abnf.specs.Abnf.{Rule, ◌⋅◌, ◌∕◌, one, At}
 use Rattle.abnf.specs.Classes.{text}
-use Rattle.abnf.proofs.Options.{none_some}
 use Rattle.abnf.proofs.Operators.{seq_in, seq_out, alt_left, alt_right, alt_out, byte_in, byte_out, one_in, one_out, Many, no_more, one_more}
 use Rattle.abnf.proofs.Runs.{Off, behind_shorter, behind_off}
 use Rattle.lexical.specs.Rfc5322.{CRLF, WSP}
@@ -29,7 +29,7 @@ text_stop b [] e f = e
 text_stop b (c ∷ []) e f = and_left (text b) (text c) e
 text_stop b (c ∷ d ∷ s) e f =
     let fold = (eqb b 13 && eqb c 10) && wsp d in
-    let none : fold ≡ false = cond_both fold (Some s) None (λ o. o ≡ None → fold ≡ false) (λ _ q. absurd (none_some (sym q))) (λ h _. h) f in
+    let none : fold ≡ false = cond_both fold (Some s) None (λ o. o ≡ None → fold ≡ false) (λ _ q. absurd (none-some _ (sym q))) (λ h _. h) f in
     cond-false (text b) (is_text (c ∷ d ∷ s)) (fold && is_text s) e ∙ and_left fold (is_text s) none
 
 -- ---- the turns of the reader

@@ -1,13 +1,13 @@
 -- Where a body is clean, what [CFWS] leaves of it begins with neither white space nor a fold nor a comment.
 use Rattle.std.proofs.Common.{◌≡◌, ℕ, zero, suc, true, false, not, eqb, List, [], ◌∷◌, length, Some, None, refl, ap, subst, ⊎_elim}
 use Rattle.std.proofs.lemmas.Bool.{cond_both, cases_Bool, and_parts, both_ways, eqb-true}
+use Rattle.std.proofs.lemmas.Option.{none-some, same_Some}
 use Rattle.fields.specs.Classes.{wsp, starts, behind}
 use Rattle.fields.specs.Clean.{is_CR, no_blank, clean}
 use Rattle.fields.specs.Scans.{fold_start}
 use Rattle.fields.proofs.Folding.{fold_at}
 use Rattle.abnf.specs.Classes.{text}
 use Rattle.abnf.specs.Turns.{Left, bind, turns}
-use Rattle.abnf.proofs.Options.{none_some, some_same}
 use Rattle.abnf.proofs.Operators.{many_in}
 use Rattle.abnf.proofs.Runs.{Off, behind_sound, behind_off}
 use Rattle.abnf.proofs.Turns.{bind_some}
@@ -49,8 +49,8 @@ record Stopped (t : List ℕ) : Type 0 where
   off_comment : Off (λ b. eqb b 40) t
 
 comments_stop : (k : ℕ) (s t : List ℕ) → clean s ≡ true → Unfolded s → turns comments k s ≡ Some t → Stopped t
-comments_stop zero s t c u e = absurd (none_some e)
-comments_stop (suc k) [] t c u e = subst Stopped (some_same e) (record { unfolded = u; off_comment = tt })
+comments_stop zero s t c u e = absurd (none-some _ e)
+comments_stop (suc k) [] t c u e = subst Stopped (same_Some _ _ e) (record { unfolded = u; off_comment = tt })
 comments_stop (suc k) (b ∷ s) t c u e =
     let on : List ℕ → Left = λ v. turns comments k (fws v) in
     cond_both (eqb b 40) (bind (comment_rest deepest s) on) (Some (b ∷ s)) (λ o. o ≡ Some t → Stopped t)
@@ -58,7 +58,7 @@ comments_stop (suc k) (b ∷ s) t c u e =
     let v = bind_some (comment_rest deepest s) on t q in
     let tidy : clean v.0 ≡ true = clean_rest ((comment_inner deepest).sound s v.0 v.1) (subst (λ n. clean (n ∷ s) ≡ true) (eqb-true b 40 h) c) in
     comments_stop k (fws v.0) t (clean_rest (fws_sound v.0) tidy) (fws_stops v.0 tidy) v.2)
-    (λ h q. subst Stopped (some_same q) (record { unfolded = u; off_comment = h }))
+    (λ h q. subst Stopped (same_Some _ _ q) (record { unfolded = u; off_comment = h }))
     e
 
 -- so text there stands apart

@@ -2,13 +2,13 @@
 use Rattle.std.proofs.Common.{◌≡◌, ℕ, ◌+◌, ◌-◌, true, List, ◌∷◌, length, Some, None, Option, sym, refl, ap, ◌∙◌, subst, arith, length-append}
 use Rattle.std.specs.Option.{option_map}
 use Rattle.std.proofs.lemmas.Bool.{cond_both, cond-true}
+use Rattle.std.proofs.lemmas.Option.{none-some, same_Some}
 use Rattle.fields.specs.Clean.{clean}
 use Rattle.fields.specs.Fields.{Placed}
 use Rattle.abnf.specs.Abnf.{Rule, At}
 use Rattle.abnf.specs.Classes.{atext, behind_byte, behind_some}
 use Rattle.abnf.specs.Exact.{Exactly}
 use Rattle.abnf.specs.Turns.{bind}
-use Rattle.abnf.proofs.Options.{none_some, some_same}
 use Rattle.abnf.proofs.Operators.{seq_in, seq_out, byte_out, sized_in, sized_out, whole_in, whole_out}
 use Rattle.abnf.proofs.Runs.{Off, byte_sound, byte_complete}
 use Rattle.abnf.proofs.Turns.{bind_some}
@@ -34,8 +34,8 @@ pub text_in_sound : (s w : List ℕ) (x : Placed) → (is_text w ≡ true → Ap
 text_in_sound s w x apart e =
     let P : Placed → Type 0 = λ y. (length s - length w ≡ y.at) × text_to_end y.bytes w in
     cond_both (is_text w) (Some (record { at = length s - length w; bytes = trim w })) None (λ o. o ≡ Some x → P x)
-    (λ h q. subst P (some_same q) (refl, text_sound w (apart h) h))
-    (λ _ q. absurd (none_some q))
+    (λ h q. subst P (same_Some _ _ q) (refl, text_sound w (apart h) h))
+    (λ _ q. absurd (none-some _ q))
     e
 
 pub text_in_complete : (s w : List ℕ) (x : Placed) → length s - length w ≡ x.at → text_to_end x.bytes w → text_in s w ≡ Some x
@@ -60,7 +60,7 @@ typed_sound s c t e =
     let sign = byte_sound 59 a.0.rest b.0 b.1 in
     let front = seq_in kind (seq_in sign (cfws_sound b.0 d.0 d.1)) in
     let x = text_in_sound s d.0 f.0 (text_apart b.0 d.0 (clean_rest sign (clean_rest kind c)) d.1) f.1 in
-    subst (λ (z : Typed). typed_text z s) (some_same f.2) (whole_out (seq_in (sized_in front (size front ∙ x.0)) (whole_in {A = text_to_end f.0.bytes} x.1)))
+    subst (λ (z : Typed). typed_text z s) (same_Some _ _ f.2) (whole_out (seq_in (sized_in front (size front ∙ x.0)) (whole_in {A = text_to_end f.0.bytes} x.1)))
 
 typed_complete : (s : List ℕ) (t : Typed) → typed_text t s → typed_of s ≡ Some t
 unfolding typed_of

@@ -24,7 +24,8 @@ fn is_blank(b: u8) -> bool
     matches!(b, b' ' | b'\t' | b'\r' | b'\n')
 }
 
-// The bytes without the white space and the folds at their end.
+// The bytes without the white space and the folds at their end. No trim of the library takes a class of bytes, and a
+// search from the end would add a case where it finds none.
 pub fn trimmed<'a>(s: &'a [u8]) -> &'a [u8]
     ensures { result.now ≡ trim s.now }
 {

@@ -1,4 +1,5 @@
 use Rattle.std.proofs.Common.{sym, subst, arith}
+use Rattle.std.proofs.lemmas.Grind.{common_steps}
 use Rattle.address.specs.Seen.{addr, listing}
 use Rattle.address.proofs.Lists.{addresses_few}
 use Rattle.equality.specs.Distinct.{Classes}
@@ -6,15 +7,14 @@ use Rattle.equality.proofs.Counting.{classes, distinct_few, count_more, count_ov
 use Rattle.equality.proofs.Numbers.{one_number}
 use Rattle.equality.proofs.distinct.Goals as goal
 
-pub overflow_add-count : goal.overflow_add-count
-overflow_add-count c =
-    omega (arith, count_more c.loop-next.count c.counts-count.result _ _ (listing c.args.list) (addr c.in-Some.next.address) c.loop-next.invariant c.in-Some.ensures c.counts-count.ensures, distinct_few (listing c.args.list), addresses_few c.args.list.text.now, c.ranges.list.0)
+pub loop-address-preserved : goal.loop-address-preserved
+loop-address-preserved c = count_more c.loop-address.count _ _ (listing c.next.new.self) (listing c.args.list) (addr c.in-Some.address) c.loop-address.invariant c.in-Some.ensures.steps (grind (arith, common_steps))
 
-pub loop-next-preserved : goal.loop-next-preserved
-loop-next-preserved c = count_more c.loop-next.count c.counts-count.result _ _ (listing c.args.list) (addr c.in-Some.next.address) c.loop-next.invariant c.in-Some.ensures c.counts-count.ensures
+pub overflow_add-count : goal.overflow_add-count
+overflow_add-count c = omega (arith, loop-address-preserved c, distinct_few (listing c.args.list), addresses_few c.args.list.text.now, c.ranges.list.0)
 
 pub returns : goal.returns
 returns c =
-    let e = count_over c.loop-next.count (listing c.loop-next.rest) (listing c.args.list) c.loop-next.invariant c.in_default.ensures in
+    let e = count_over c.loop-address.count (listing c.loop-address.list) (listing c.args.list) c.loop-address.invariant c.in_default.ensures.steps.0 in
     let all = subst (Classes (listing c.args.list)) (sym e) (classes (listing c.args.list)) in
-    record { counted = e; classes = all; alone = λ n h. one_number (listing c.args.list) n c.loop-next.count h all }
+    record { counted = e; classes = all; alone = λ n h. one_number (listing c.args.list) n c.loop-address.count h all }

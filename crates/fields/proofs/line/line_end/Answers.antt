@@ -1,12 +1,18 @@
-use Rattle.std.proofs.Common.{sym, ◌∙◌, arith, ltb-false, ltb-true}
-use Rattle.fields.proofs.Scanning.{line_here, line_more, line_none}
+use Rattle.std.proofs.Common.{sym, ap, ◌∙◌, arith}
+use Rattle.std.proofs.lemmas.List.{take_rest}
+use Rattle.std.specs.Option.{option_map}
+use Rattle.fields.specs.Scans.{crlf_here}
+use Rattle.fields.proofs.Scanning.{line_nowhere, line_far, line_near}
 use Rattle.fields.proofs.line.line_end.Goals as goal
 
-pub returns-in-13 : goal.returns-in-13
-returns-in-13 c = c.crlf.ensures ∙ sym (line_here c.loop-rest.left c.loop-rest.rest.now (omega (arith, ltb-false)) c.in-13.is) ∙ c.loop-rest.invariant
+pub returns-in_err-front : goal.returns-in_err-front
+returns-in_err-front c = ap (option_map (λ x. x.now)) c.from_residual.ensures ∙ sym (line_nowhere c.args.room c.args.s.now (sym c.plain_front.ensures ∙ c.in_err-front.was))
 
-pub loop-rest-preserved : goal.loop-rest-preserved
-loop-rest-preserved c = sym (line_more c.loop-rest.left c.loop-rest.rest.now (omega (arith, ltb-false)) (omega arith) (omega arith) (omega arith) (omega arith)) ∙ c.loop-rest.invariant
+pub returns-then-front-room : goal.returns-then-front-room
+returns-then-front-room c = sym (line_far c.args.room c.args.s.now c.in_ok-front.front (sym c.plain_front.ensures ∙ c.in_ok-front.was) c.if-front-room.true)
 
 pub returns : goal.returns
-returns c = sym (line_none c.loop-rest.left c.loop-rest.rest.now (omega (arith, ltb-true))) ∙ c.loop-rest.invariant
+returns c =
+    c.crlf.ensures
+    ∙ ap crlf_here (take_rest c.args.s.now c.in_ok-front.front)
+    ∙ sym (line_near c.args.room c.args.s.now c.in_ok-front.front (sym c.plain_front.ensures ∙ c.in_ok-front.was) (omega (arith, c.if-front-room.false)))

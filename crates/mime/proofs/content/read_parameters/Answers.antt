@@ -1,18 +1,13 @@
-use Rattle.std.proofs.Common.{◌||◌, sym, ◌∙◌, subst, arith, tests, ltb-false}
+use Rattle.std.proofs.Common.{◌||◌, sym, subst, arith, tests, ltb-false}
 use Rattle.std.specs.Option.{option_map}
 use Rattle.mime.specs.Kinds.{some, reports}
 use Rattle.mime.specs.Reads.{parameters_of}
 use Rattle.mime.specs.Seen.{read}
-use Rattle.mime.proofs.Finding.{Found, finding_start, found_none, found_on}
+use Rattle.mime.proofs.Finding.{Found, finding_start, found_on}
 use Rattle.mime.proofs.content.read_parameters.Goals as goal
 
 pub loop-rest-init : goal.loop-rest-init
 loop-rest-init c = finding_start c.args.s.now
-
-pub returns-in_err-p : goal.returns-in_err-p
-returns-in_err-p c =
-    c.from_residual.ensures
-    ∙ found_none c.loop-rest.found _ c.loop-rest.rest.now c.loop-rest.invariant (omega (arith, ltb-false)) (omega (arith, tests)) (sym c.in_err-p.ensures)
 
 on : (c : goal.After-rest-1) → Found (c.loop-rest.found || c.says_notification-found.result) c.loop-rest.rest.now c.in_ok-p.p.rest.now (option_map (some reports) (parameters_of c.args.s.now))
 on c =

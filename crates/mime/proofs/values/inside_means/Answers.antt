@@ -1,15 +1,16 @@
-use Rattle.std.proofs.Common.{sym, ◌∙◌, arith, ltb-false, ltb-true}
-use Rattle.mime.proofs.Unquoting.{ended, longer, goes_on, differ}
+use Rattle.std.proofs.Common.{ap, rules}
+use Rattle.std.specs.Char.{to_ascii_lowercase}
+use Rattle.std.proofs.lemmas.Iterator.{YieldsList-from_slice, YieldsList-from_map}
+use Rattle.std.proofs.lemmas.Iterator.Consumers.{YieldsList-from_first}
+use Rattle.abnf.specs.Strings.{alike}
+use Rattle.mime.specs.Values.{between}
+use Rattle.mime.specs.Meanings.{meanings}
+use Rattle.mime.proofs.Comparing.{eq_gives}
 use Rattle.mime.proofs.values.inside_means.Goals as goal
 
-pub returns-in_default-left : goal.returns-in_default-left
-returns-in_default-left c = longer _ c.loop-m.rest.now c.loop-m.left.now c.loop-m.invariant _ _ c.in-Some.ensures.means (omega (arith, ltb-true))
-
-pub returns-then-not-eq_ignore_ascii_case : goal.returns-then-not-eq_ignore_ascii_case
-returns-then-not-eq_ignore_ascii_case c = differ _ c.loop-m.rest.now c.loop-m.left.now c.loop-m.invariant _ _ c.in-Some.ensures.means (omega (arith, ltb-false)) (sym c.if-not-eq_ignore_ascii_case.ensures)
-
-pub loop-m-preserved : goal.loop-m-preserved
-loop-m-preserved c = goes_on _ c.loop-m.rest.now c.loop-m.left.now c.loop-m.invariant _ _ c.in-Some.ensures.means (omega (arith, ltb-false)) (sym c.if-not-eq_ignore_ascii_case.ensures)
-
 pub returns : goal.returns
-returns c = c.is_empty.ensures ∙ ended _ c.loop-m.rest.now c.loop-m.left.now c.loop-m.invariant c.in_default.ensures
+unfolding alike
+returns c =
+    eq_gives _ c.eq.ensures.ran
+    (YieldsList-from_map _ to_ascii_lowercase (YieldsList-from_first (λ x. x) meanings (between c.args.s.now) (ap meanings c.map.ensures.source)) c.map.ensures.closure (λ x r q k. search rules))
+    (YieldsList-from_map _ to_ascii_lowercase (YieldsList-from_slice c.args.known.now cc) c.map-2.ensures.closure (λ x r q k. search rules))

@@ -1,8 +1,0 @@
-use Rattle.std.proofs.Common.{sym, ◌∙◌, arith, tests, ltb-false}
-use Rattle.abnf.specs.Classes.{atext, behind_some}
-use Rattle.lexical.specs.Reads.{quoted_rest}
-use Rattle.lexical.specs.Tokens.{opened}
-use Rattle.lexical.proofs.quoted.WordReader.read.Goals as goal
-
-pub returns-in-34 : goal.returns-in-34
-returns-in-34 c = c.skip_quoted.ensures ∙ sym (opened 34 quoted_rest (behind_some atext) c.args.s.now (omega (arith, ltb-false)) (omega (arith, tests)))
