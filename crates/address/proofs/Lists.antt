@@ -153,7 +153,7 @@ pub record Counting (s rest : List ℕ) (n : ℕ) : Type 0 where
   pub long_enough : length rest ≤ fuel
   pub same : counted n (listed (turns listed fuel) rest) ≡ is_some (mailbox_list_of s)
 
-list_there : (s : List ℕ) → true ≡ is_some (mailbox_list_of s) → Some (addresses s) ≡ mailbox_list_of s
+pub list_there : (s : List ℕ) → true ≡ is_some (mailbox_list_of s) → Some (addresses s) ≡ mailbox_list_of s
 list_there s e = go (mailbox_list_of s) refl e
   where
     go : (o : Option (List Addr)) → mailbox_list_of s ≡ o → true ≡ is_some o → Some (addresses s) ≡ mailbox_list_of s
@@ -174,18 +174,18 @@ module _ (s rest : List ℕ) (n : ℕ) (c : Counting s rest n) (m : Found) (e : 
   pub last_mailbox : n < most_addresses → m.rest ≡ [] → Some (addresses s) ≡ mailbox_list_of s
   last_mailbox room q = list_there s (sym (le-leb (n + 1) most_addresses (omega (arith, room))) ∙ behind_it [] q)
 
+  comma : (u : List ℕ) → behind_byte 44 m.rest ≡ Some u → m.rest ≡ 44 ∷ u
+  comma u q = byte_out (byte_sound 44 m.rest u q)
+
+  pub one_shorter : (u : List ℕ) → behind_byte 44 m.rest ≡ Some u → length u < length rest
+  one_shorter u q = omega (arith, ap length (comma u q), mailbox_shortens rest m e)
+
   pub one_counted : (u : List ℕ) → behind_byte 44 m.rest ≡ Some u → Counting s u (n + 1)
-  one_counted u q = go c.fuel c.long_enough (sym (one_first n m.address (turns listed c.fuel u)) ∙ behind_it (44 ∷ u) comma)
+  one_counted u q = go c.fuel c.long_enough (sym (one_first n m.address (turns listed c.fuel u)) ∙ behind_it (44 ∷ u) (comma u q))
     where
-      comma : m.rest ≡ 44 ∷ u
-      comma = byte_out (byte_sound 44 m.rest u q)
-
-      less : length u < length rest
-      less = omega (arith, ap length comma, mailbox_shortens rest m e)
-
       go : (k : ℕ) → length rest ≤ k → counted (n + 1) (turns listed k u) ≡ is_some (mailbox_list_of s) → Counting s u (n + 1)
-      go zero h w = absurd (omega (arith, less))
-      go (suc k) h w = record { fuel = k; long_enough = omega (arith, less); same = w }
+      go zero h w = absurd (omega (arith, one_shorter u q))
+      go (suc k) h w = record { fuel = k; long_enough = omega (arith, one_shorter u q); same = w }
 
 pub addresses_few : (s : List ℕ) → length (addresses s) ≤ length s
 unfolding addresses

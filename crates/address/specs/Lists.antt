@@ -38,3 +38,8 @@ addresses_by (suc k) s = addresses_on (addresses_by k) (mailbox_of s)
 
 unfoldable pub addresses : List ℕ → List Addr
 addresses s = addresses_by (suc (length s)) s
+
+-- the first and the others
+abbrev pub parted : List Addr → Option (Addr × List Addr)
+parted [] = None
+parted (a ∷ others) = Some (a, others)

@@ -6,8 +6,8 @@ ghost use Rattle.fields.specs.Clean.{clean};
 ghost use Rattle.abnf.specs.Exact.{Exactly, itself};
 ghost use Rattle.address.specs.Rfc5322.{mailbox_list};
 ghost use Rattle.address.specs.Reads.{word_first, name_rest, angle_start, angle_of, mailbox_of};
-ghost use Rattle.address.specs.Lists.{mailbox_list_of};
-ghost use Rattle.address.specs.Seen.{addr, found, listing};
+ghost use Rattle.address.specs.Lists.{parted, mailbox_list_of};
+ghost use Rattle.address.specs.Seen.{addr, found, first_of, listing};
 
 use crate::addr_spec::{Address, addr_spec};
 use abnf::classes::{Atext, skip_byte};
@@ -81,6 +81,26 @@ fn mailbox<'a>(s: &'a [u8]) -> Option<Taken<'a, Address<'a>>>
 #[derive(Clone, Copy)]
 pub struct Mailboxes<'a> {
     text: &'a [u8],
+}
+
+// The first address of a list, and the others. It stays beside the iterator for those who call `first`.
+#[derive(Clone, Copy)]
+pub struct First<'a> {
+    pub address: Address<'a>,
+    pub others: Mailboxes<'a>,
+}
+
+impl<'a> Mailboxes<'a> {
+    // The first address and the others, if there is one: what `next` answers, and what it leaves.
+    pub fn first(mut self) -> Option<First<'a>>
+        ensures { option_map first_of result ≡ parted (listing self.entry) }
+    {
+        let address = self.next()?;
+        Some(First {
+            address,
+            others: self,
+        })
+    }
 }
 
 // Their addresses, from the first to the last.

@@ -1,5 +1,5 @@
 // Where lines end.
-ghost use Rattle.std.specs.Prelude.{◌≡◌, not, position};
+ghost use Rattle.std.specs.Prelude.{◌≡◌, ◌+◌, not, take, position};
 ghost use Rattle.std.specs.Option.{option_map};
 ghost use Rattle.fields.specs.Classes.{plain};
 ghost use Rattle.fields.specs.Scans.{crlf_here, line_end, fold_start, fold_end};
@@ -16,14 +16,19 @@ fn plain_front(s: &[u8]) -> Option<usize>
     s.iter().position(|b| matches!(*b, 0 | b'\r' | b'\n'))
 }
 
+// The bytes of a line that have room, and one behind them: no more are looked at, so that a line that is too long costs no
+// more than one that fits.
+fn near<'a>(s: &'a [u8], room: usize) -> &'a [u8]
+    ensures { result.now ≡ take (room + 1) s.now }
+{
+    s.get(..=room).unwrap_or(s)
+}
+
 // The bytes from the CRLF on that ends the line, where at most `room` stand before it, none of them NUL, CR or LF.
 pub(crate) fn line_end<'a>(s: &'a [u8], room: usize) -> Option<&'a [u8]>
     ensures { option_map (λ x. x.now) result ≡ line_end room s.now }
 {
-    let front = plain_front(s)?;
-    if front > room {
-        return None;
-    }
+    let front = plain_front(near(s, room))?;
     crlf(&s[front..])
 }
 

@@ -18,7 +18,7 @@ use Rattle.mime.specs.Tokens.{token_reads, value_reads, Beyond, around_complete}
 
 -- ---- a token before a byte
 module _ (n : ℕ) (s : List ℕ) where
-  before_found : (a : Token) → token_of token_rest s ≡ Some a → (u : List ℕ) → behind_byte n a.rest ≡ Some u → token_before n s ≡ Some (record { text = text_of a.text; rest = u })
+  pub before_found : (a : Token) → token_of token_rest s ≡ Some a → (u : List ℕ) → behind_byte n a.rest ≡ Some u → token_before n s ≡ Some (record { text = text_of a.text; rest = u })
   unfolding token_before
   before_found a e u f = rw (e, f) refl
 
@@ -37,7 +37,7 @@ module _ (n : ℕ) (s : List ℕ) where
 
 -- ---- a parameter
 module _ (s : List ℕ) where
-  parameter_found : (a : Text) → token_before 61 s ≡ Some a → (v : Token) → token_of value_rest a.rest ≡ Some v → parameter_of s ≡ Some (record { parameter = record { attribute = a.text; value = text_of v.text }; rest = v.rest })
+  pub parameter_found : (a : Text) → token_before 61 s ≡ Some a → (v : Token) → token_of value_rest a.rest ≡ Some v → parameter_of s ≡ Some (record { parameter = record { attribute = a.text; value = text_of v.text }; rest = v.rest })
   unfolding parameter_of
   parameter_found a e v f = rw (e, f) refl
 
@@ -115,7 +115,7 @@ parameters_complete (suc k) (p ∷ ps) s less h =
 
 -- ---- the whole
 module _ (s : List ℕ) where
-  content_found : (a : Text) → token_before 47 s ≡ Some a → (b : Token) → token_of token_rest a.rest ≡ Some b → content_of s ≡ option_map (λ ps. record { type = a.text; subtype = text_of b.text; parameters = ps }) (parameters_of b.rest)
+  pub content_found : (a : Text) → token_before 47 s ≡ Some a → (b : Token) → token_of token_rest a.rest ≡ Some b → content_of s ≡ option_map (λ ps. record { type = a.text; subtype = text_of b.text; parameters = ps }) (parameters_of b.rest)
   unfolding content_of
   content_found a e b f = rw (e, f) refl
 

@@ -55,14 +55,18 @@ fn count(rest: &mut Bytes) -> usize
     n
 }
 
-// The group stands there once already.
+// The group stands there once already. Each turn copies all that stands there of it, or what is still wanting, so that a
+// short group is no dearer than a long one, and an empty group is no work at all.
 fn repeat(bytes: &mut Vec<u8>, group: usize, times: usize) -> Result<(), AllocError>
     requires { group ≤ vec_len bytes.old }
     ensures { vec_len bytes.old ≤ vec_len bytes.new }
 {
-    let end = bytes.len();
-    for _ in 1..times {
-        bytes.extend_from_within(group..end)?;
+    let size = bytes.len() - group;
+    let mut more = size.saturating_mul(times.saturating_sub(1));
+    while more > 0 {
+        let copied = more.min(bytes.len() - group);
+        bytes.extend_from_within(group..group + copied)?;
+        more -= copied;
     }
     Ok(())
 }
@@ -95,6 +99,21 @@ mod tests {
             )?
         );
         assert!(rt; spells(&rt, "{2*\\}b}", b"}b}b")?);
+        Ok(())
+    }
+
+    #[test]
+    fn spells_longer_groups(rt: HostRuntime) -> Result<(), Fail> {
+        assert!(rt; spells(&rt, "c{7*ab}", b"cababababababab")?);
+        assert!(rt; spells(&rt, "{4*a}{3*bc}", b"aaaabcbcbc")?);
+        Ok(())
+    }
+
+    // An empty group is no work, however often it is to stand there.
+    #[test]
+    fn spells_empty_groups(rt: HostRuntime) -> Result<(), Fail> {
+        assert!(rt; spells(&rt, "a{3*}b", b"ab")?);
+        assert!(rt; spells(&rt, "a{18446744073709551615*}b", b"ab")?);
         Ok(())
     }
 
